@@ -246,7 +246,7 @@ def proposals(kind, file, least, cited):
 
 def rewritten(file, chosen):
     """The text of a file in which these lemmas have these lines, or which imports them."""
-    lines, imported = list(file.lines), {name: new[0] for name, new in chosen.items() if "use " in new[0]}
+    lines, imported = list(file.lines), {name: new[0] for name, new in chosen.items() if re.match(r"(pub )?use ", new[0])}
     for lemma in reversed(file.lemmas):
         if lemma.name in chosen and lemma.name not in imported:
             lines[lemma.body : lemma.end] = chosen[lemma.name]

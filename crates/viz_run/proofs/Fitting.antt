@@ -2,18 +2,27 @@
 use Rattle.std.proofs.Common.{◌≡◌, ℕ, ◌+◌, ◌≤◌, ◌<◌, nat_lt, pos, Option, Some, None, List, [], ◌∷◌, length, Bool, true, false, not, ◌||◌, ◌&&◌, leb, IsTrue, sym, ap, ◌∙◌, arith}
 use Rattle.std.proofs.lemmas.Bool.{and_parts, leb-true, ltb-true}
 use Rattle.std.proofs.lemmas.Int.{ints}
+use Rattle.std.proofs.lemmas.List.{length-map}
+use Rattle.std.specs.String.{string_bytes}
+use Rattle.std.specs.declared.string.String.{String}
 use Rattle.std.specs.List.{list_any, list_all}
 use Rattle.vz_base.specs.declared.limits.TheConstants.{MOST_FILES, MOST_BUFFERS, MOST_TICKS, GREATEST_DISPLAY_SIDE}
 use Rattle.vz_frame.specs.Fits.{within}
 use Rattle.vz_frame.specs.Frame.{has_repeat}
 use Rattle.vz_geom.specs.Display.{IsDisplaySize}
 use Rattle.vz_geom.specs.Rectangle.{has, sized}
+use Rattle.viz_run.specs.Read.{texts}
 use Rattle.vz_rules.specs.Command.{Word, Run, Step, Check, Hit, Turns, fits_command, buffers_fit, buffer_count, frames_fit, are_sides, are_files, is_name, are_names, same_text}
 
 in_range : (low high n : ℕ) → within low high n ≡ true → (low ≤ n) × (n ≤ high)
 in_range low high n is =
     let both = and_parts (leb low n) (leb n high) is in
     (leb-true low n both.0, leb-true n high both.1)
+
+-- there are as many names as texts of them
+pub some_named :
+    {A : Type 0} (names : List (String A)) → (1 ≤ length (texts names)) × (length (texts names) ≤ MOST_FILES) → (1 ≤ length names) × (length names ≤ MOST_FILES)
+some_named names fit = let long = length-map names string_bytes in (omega (arith, long, fit.0), omega (arith, long, fit.1))
 
 same_text_self : (a : Word) → same_text a a ≡ true
 same_text_self [] = grind arith

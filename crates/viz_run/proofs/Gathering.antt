@@ -1,12 +1,12 @@
 -- Files read one after the other.
-use Rattle.std.proofs.Common.{◌≡◌, ℕ, zero, suc, IsTrue, ◌+◌, ◌<◌, List, [], ◌∷◌, ◌++◌, length, take, get_or, Ok, inl, inr, refl, sym, ap, ◌∙◌, subst, arith}
+use Rattle.std.proofs.Common.{◌≡◌, ℕ, zero, suc, IsTrue, ◌+◌, ◌<◌, List, [], ◌∷◌, ◌++◌, length, take, get_or, Ok, inl, inr, sym, ap, ◌∙◌, subst, arith}
 use Rattle.std.proofs.lemmas.Grind.{take_at_read}
 use Rattle.std.proofs.lemmas.List.{map-append, length-append}
 use Rattle.std.specs.declared.string.String.{String}
 use Rattle.std.specs.declared.vec.Vec.{Vec}
 use Rattle.std.specs.String.{string_bytes}
 use Rattle.vz_outside.specs.Shelved.{Shelved, Name, IsMissing, SameFiles, BehavesUnless}
-use Rattle.vz_outside.proofs.Calls.{Ran, ran_none, ran_one, ran_then_ran, files_then_files}
+use Rattle.vz_outside.proofs.Calls.{Ran, ran_one, ran_then_ran, files_then_files}
 use Rattle.viz_run.specs.Read.{IsReadUpto, AreReadUpto, MissesOne, texts, contents}
 
 -- files of these names were read, and calls went through
@@ -14,9 +14,6 @@ pub record HasRead (limit : ℕ) (names : List Name) (files : List (List ℕ)) (
   pub read : AreReadUpto limit names files before
   pub same : SameFiles before now
   pub ran : Ran before now
-
-pub read_none : (limit : ℕ) (s : Shelved) → HasRead limit [] [] s s
-read_none limit s = record { read = tt; same = λ told name. refl; ran = ran_none s }
 
 -- one more was read
 one_read :

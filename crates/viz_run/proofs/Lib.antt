@@ -17,10 +17,9 @@ mod Returns
 mod Spelled
 mod Making
 mod Asked_names
-mod Takes
+pub mod Takes
 mod Demonstrated
 mod Files_given
 mod Run_done
-mod Turns_done
-mod Hit_done
 mod Opened
+mod Exits

@@ -1,5 +1,5 @@
 -- From what a command does to what the words that ask for it do.
-use Rattle.std.proofs.Common.{rules, ◌≡◌, ℕ, ◌+◌, ◌≤◌, Result, Ok, Err, IfOk, IfErr, OnErr, IsErrOf, IsErrAnd, IsTrue, List, [], ◌∷◌, take, inr, refl, sym, ap, subst, ◌∙◌, arith}
+use Rattle.std.proofs.Common.{rules, ◌≡◌, ℕ, ◌+◌, ◌≤◌, Result, Ok, Err, IfOk, IfErr, OnErr, IsErrOf, IsErrAnd, IsTrue, List, [], ◌∷◌, take, inr, refl, sym, subst, ◌∙◌, arith}
 use Rattle.vz_base.specs.declared.limits.TheConstants.{DEFAULT_BUFFERS, MOST_ROUNDS}
 use Rattle.vz_gen.specs.Make.{make}
 use Rattle.viz_run.specs.Read.{MissesOne}
@@ -35,11 +35,6 @@ pub if_ok : {T E : Type 0} (r : Result T E) (P Q : T → Type 0) → ((x : T) �
 if_ok (Ok x) P Q follows is = follows x is
 if_ok (Err e) P Q follows is = tt
 
--- what follows of an error
-pub if_err : {T E : Type 0} (r : Result T E) (P Q : E → Type 0) → ((e : E) → P e → Q e) → IfErr r P → IfErr r Q
-if_err (Ok x) P Q follows is = tt
-if_err (Err e) P Q follows is = follows e is
-
 -- what follows at an error
 pub at_err : {T E : Type 0} (r : Result T E) (P Q : Type 0) → (P → Q) → OnErr r P → OnErr r Q
 at_err (Ok x) P Q follows is = tt
@@ -70,11 +65,6 @@ pub unrefused : {T : Type 0} (e : ShelfError) (r : Result T Stop) (P : Stop → 
 unrefused e (Ok x) P is = tt
 unrefused e (Err s) P is = λ refusal. absurd (no_refusal e (subst IsRefusal is refusal))
 
--- nor is want of memory
-pub unrefused_memory : {T : Type 0} (r : Result T Stop) (P : Stop → Type 0) → IsErrAnd r (λ s. s ≡ stop.Memory) → IfErr r (λ s. IsRefusal s → P s)
-unrefused_memory (Ok x) P is = tt
-unrefused_memory (Err s) P is = λ refusal. absurd (subst IsRefusal is refusal)
-
 err_is : {T : Type 0} (s t : Stop) → IsErrOf {T = T} (Err s) t → s ≡ t
 err_is s t is = search rules
 
@@ -83,10 +73,6 @@ pub none_refused : {T : Type 0} (e : ShelfError) (r : Result T Stop) (t : Stop) 
 none_refused e (Ok x) t is refusal at = is
 none_refused e (Err s) t is refusal at = no_refusal e (subst IsRefusal (sym (err_is s t at) ∙ is) refusal)
 
-pub none_at_memory : {T : Type 0} (r : Result T Stop) (t : Stop) → IsErrAnd r (λ s. s ≡ stop.Memory) → IsRefusal t → IsErrOf r t → ⊥
-none_at_memory (Ok x) t is refusal at = is
-none_at_memory (Err s) t is refusal at = subst IsRefusal (sym (err_is s t at) ∙ is) refusal
-
 -- want of memory is no fault
 pub memory_no_fault : {T : Type 0} (r : Result T Stop) → IsErrAnd r (λ s. s ≡ stop.Memory) → IsErrOf r stop.Fault → ⊥
 memory_no_fault (Ok x) is at = is
@@ -94,10 +80,6 @@ memory_no_fault (Err s) is at = differ (sym (err_is s stop.Fault at) ∙ is)
   where
     differ : stop.Fault ≡ stop.Memory → ⊥
     differ same = search rules
-
--- nor is an answer
-pub ok_no_fault : {T : Type 0} (x : T) → IsErrOf (Ok x) stop.Fault → ⊥
-ok_no_fault x at = search rules
 
 -- Of words that ask for a command
 

@@ -20,9 +20,6 @@ err_fault s is = search rules
 err_failed : {T : Type 0} (e : ShelfError) → e ≡ shelf_error.Failed → IsErrOf {T = T} (Err e) shelf_error.Failed
 err_failed e is = search rules
 
-failed_err : {T : Type 0} (e : ShelfError) → IsErrOf {T = T} (Err e) shelf_error.Failed → e ≡ shelf_error.Failed
-failed_err e is = search rules
-
 -- calls went through, and the last one is the error that the call stops for
 pub stops_at :
     {T U P Q : Type 0} (e : ShelfError) (r : Result T Stop) (a b c : Shelved) → IsErrAnd r (λ s. s ≡ stop_of e)

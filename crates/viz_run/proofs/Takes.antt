@@ -1,7 +1,7 @@
 -- What a player or a tester has taken, event by event.
 use Rattle.std.proofs.Common.{◌≡◌, ℕ, suc, ◌+◌, ◌<◌, false, List, [], ◌∷◌, ◌++◌, length, take, get_or, refl, sym, ap, subst, ◌∙◌, inl, inr, append_assoc, arith}
 use Rattle.std.proofs.Math.Seq.{take-suc}
-use Rattle.std.proofs.lemmas.List.{append-nil, map-append}
+use Rattle.std.proofs.lemmas.List.{map-append}
 use Rattle.vz_display.specs.Displayed.{upto_most, display_at, display_after}
 use Rattle.vz_player.specs.Played.{Played, first_played, played_on, next_entry, painted_by, display_of, StopsAt}
 use Rattle.vz_rules.specs.Plan.{Plan}
@@ -12,10 +12,6 @@ use Rattle.vz_rules.specs.Frames.{painted, painted_of, drawn_frames, drawn_frame
 use Rattle.vz_player.specs.Tested.{Tested, tested_on}
 use Rattle.viz_run.specs.Ends.{events_in}
 use Rattle.viz_run.specs.Taken.{HasTaken, HasTested}
-
--- none was taken
-pub none_taken : (p : Played) → HasTaken [] p p
-none_taken p = record { plan = refl; buffers = refl; history = sym (append-nil (events_in p.history)) }
 
 -- the event of an entry is that for which it was made
 event_of_next : (q : Played) (e : Event) → (next_entry q e).event ≡ e

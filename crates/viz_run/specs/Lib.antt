@@ -20,3 +20,4 @@ pub mod Made
 pub mod Ran
 pub mod Turned
 pub mod Planning
+pub mod Answered

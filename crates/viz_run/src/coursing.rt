@@ -1,7 +1,7 @@
 //! Runs a plan with threads, and writes the frames and the log.
-ghost use Rattle.std.specs.Prelude.{◌≡◌, ◌≢◌, ◌+◌, Some, [], ◌∷◌, IsTrue};
+ghost use Rattle.std.specs.Prelude.{◌≡◌, ◌≢◌, ◌+◌, Some, [], IsTrue};
 ghost use Rattle.std.specs.Prelude.{IfOk, OnOk, OnErr};
-ghost use Rattle.vz_player.specs.Written.{AreWhole, AreBegun, KeepsAllBut};
+ghost use Rattle.vz_player.specs.Written.{WritesAll, WritesSome};
 ghost use Rattle.vz_outside.specs.Shelved.{Writing, KeepsOthers, Appends, AppendsFront, Behaves};
 ghost use Rattle.vz_rules.specs.Command.{fits_command, buffer_count};
 ghost use Rattle.vz_rules.specs.Frames.{painted};
@@ -54,16 +54,15 @@ where
     requires empty { history.old ≡ [] }
     ensures run { OnOk result
         (IsRun (M.state machine).plan words.now.ticks words.now.paced history.new) }
-    ensures whole { OnOk result (AreWhole
-        (outputs_for words.now (M.state machine).plan history.new) (F.shelved shelf.new)) }
+    ensures whole { OnOk result (WritesAll
+        (outputs_for words.now (M.state machine).plan history.new)
+        (F.shelved shelf.old) (F.shelved shelf.new)) }
     ensures counted { OnOk result (steps.new ≡ steps.old
         + painted (M.state machine).plan history.new (buffer_count words.now.buffers)) }
     ensures legal { Legal (M.state machine).plan history.new }
-    ensures begun { OnErr result (AreBegun
+    ensures begun { OnErr result (WritesSome
         (outputs_for words.now (M.state machine).plan history.new)
         (F.shelved shelf.old) (F.shelved shelf.new)) }
-    ensures others { KeepsAllBut (words.now.frames.now ∷ words.now.log.now ∷ [])
-        (F.shelved shelf.old) (F.shelved shelf.new) }
     ensures behaves { Behaves (F.shelved shelf.old) (F.shelved shelf.new) result }
 {
     let outputs = create_outputs(shelf, words.frames, words.log)?;

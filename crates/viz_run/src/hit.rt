@@ -1,24 +1,18 @@
 //! The command `hit`: takes the events of a schedule without painting, and says which surface is
 //! hit at a point of the last drawing.
-ghost use Rattle.std.specs.Prelude.{◌≡◌, ◌≤◌, ℕ, All, [], length, take, IsTrue, string_bytes};
-ghost use Rattle.std.specs.Prelude.{IfOk, IfErr, OnOk, OnErr, IsErrOf};
+ghost use Rattle.std.specs.Prelude.{◌≡◌, ◌≤◌, ℕ, All, [], length, take, IsTrue};
+ghost use Rattle.std.specs.Prelude.{IfOk, OnOk, OnErr};
 ghost use Rattle.vz_base.specs.declared.limits.TheConstants.{MOST_FILES};
-ghost use Rattle.viz_run.specs.Read.{MissesOne};
-ghost use Rattle.viz_run.specs.declared.refused.Refused.{Refused as Refusal};
 ghost use Rattle.vz_machine.specs.Stepping.{IsOnDisplay};
-ghost use Rattle.vz_outside.specs.Shelved.{SameFiles};
 ghost use Rattle.vz_rules.specs.Command.{fits_command};
 ghost use Rattle.vz_rules.specs.Step.{NamesClient};
 ghost use Rattle.vz_rules.specs.Whole.{hit_last};
 ghost use Rattle.vz_rules.specs.World.{opening};
-ghost use Rattle.viz_run.specs.Commands.{input_names};
-ghost use Rattle.viz_run.specs.Causes.{DoesFor, RefusesFor, LeavesFor};
-ghost use Rattle.viz_run.specs.Ends.{IsHistory, IsUnbegun};
+ghost use Rattle.viz_run.specs.Answered.{AnswersFor};
+ghost use Rattle.viz_run.specs.Ends.{IsHistory};
 ghost use Rattle.viz_run.specs.Scheduled.{command_of};
 ghost use Rattle.viz_run.specs.Site.{site};
-ghost use Rattle.viz_run.specs.Stops.{Behaves, IsRefusal};
 ghost use Rattle.viz_run.specs.Taken.{HasTested};
-ghost use Rattle.viz_run.specs.declared.stop.Stop.TheVariants as stops;
 
 use crate::end::End;
 use crate::given::{Given, admit};
@@ -49,21 +43,8 @@ pub fn hit<F: Shelf, G: Gate, R: Threads + AllocGlobal + Sync>(
 ) -> Result<End, Stop>
     requires fits { IsTrue (fits_command (command_of words.now)) }
     requires empty { history.old ≡ [] }
-    ensures done { IfOk result (λ ended. (steps : ℕ) → DoesFor (command_of words.now) history.new
-        (site (F.shelved shelf.old) steps) (site (F.shelved shelf.new) steps)
-        (string_bytes ended.line) ended.status) }
-    ensures low { IfOk result (λ ended. ended.status ≤ 1) }
-    ensures words { IsErrOf result stops.Words → ⊥ }
-    ensures input { (r : Refusal) → IsErrOf result (stops.Input r)
-        → RefusesFor (command_of words.now) (F.shelved shelf.old) r }
-    ensures unbegun { IfErr result (λ stop. IsRefusal stop → (steps : ℕ) → IsUnbegun history.new
-        (site (F.shelved shelf.old) steps) (site (F.shelved shelf.new) steps)) }
-    ensures front { OnErr result ((steps : ℕ) → LeavesFor (command_of words.now) history.new
-        (site (F.shelved shelf.old) steps) (site (F.shelved shelf.new) steps)) }
-    ensures files { SameFiles (F.shelved shelf.old) (F.shelved shelf.new) }
-    ensures behaves { Behaves
-        (MissesOne (input_names (command_of words.now)) (F.shelved shelf.old))
-        (F.shelved shelf.old) (F.shelved shelf.new) result }
+    ensures { (steps : ℕ) → AnswersFor (command_of words.now) history.new
+        (site (F.shelved shelf.old) steps) (site (F.shelved shelf.new) steps) result }
 {
     let size = size_of(words.width, words.height);
     let Given { plan, events } = admit(rt, shelf, size, words.schedule, words.files)?;

@@ -1,13 +1,8 @@
 //! Carries out the command that the words ask for.
-ghost use Rattle.std.specs.Prelude.{◌≡◌, ◌≤◌, [], IfOk, IfErr, OnErr, IsErrOf, string_bytes};
+ghost use Rattle.std.specs.Prelude.{◌≡◌, []};
 ghost use Rattle.vz_words.specs.Words.{texts};
-ghost use Rattle.viz_run.specs.declared.refused.Refused.{Refused as Refusal};
-ghost use Rattle.viz_run.specs.Commands.{AsksNothing};
-ghost use Rattle.viz_run.specs.Causes.{DoesAll, RefusesOne, LeavesFront, KeepsOthers, FindsInputs};
-ghost use Rattle.viz_run.specs.Ends.{IsUnbegun};
+ghost use Rattle.viz_run.specs.Answered.{AnswersAll};
 ghost use Rattle.viz_run.specs.Site.{site};
-ghost use Rattle.viz_run.specs.Stops.{Behaves, IsRefusal};
-ghost use Rattle.viz_run.specs.declared.stop.Stop.TheVariants as stops;
 
 use crate::demo::demo;
 use crate::end::End;
@@ -43,20 +38,8 @@ pub fn perform<F: Shelf + Send, G: Gate + Sync, L: Ledger, R>(
 where
     R: Threads + Wait + AllocGlobal + Sync,
     requires { history.old ≡ [] }
-    ensures done { IfOk result (λ ended. DoesAll (texts words.now) history.new
-        (site (F.shelved shelf.old) steps.old) (site (F.shelved shelf.new) steps.new)
-        (string_bytes ended.line) ended.status) }
-    ensures low { IfOk result (λ ended. ended.status ≤ 1) }
-    ensures words { IsErrOf result stops.Words → AsksNothing (texts words.now) }
-    ensures input { (r : Refusal) → IsErrOf result (stops.Input r)
-        → RefusesOne (texts words.now) (F.shelved shelf.old) r }
-    ensures unbegun { IfErr result (λ stop. IsRefusal stop → IsUnbegun history.new
-        (site (F.shelved shelf.old) steps.old) (site (F.shelved shelf.new) steps.new)) }
-    ensures front { OnErr result (LeavesFront (texts words.now) history.new
-        (site (F.shelved shelf.old) steps.old) (site (F.shelved shelf.new) steps.new)) }
-    ensures others { KeepsOthers (texts words.now) (F.shelved shelf.old) (F.shelved shelf.new) }
-    ensures behaves { Behaves (FindsInputs (texts words.now) (F.shelved shelf.old) → ⊥)
-        (F.shelved shelf.old) (F.shelved shelf.new) result }
+    ensures { AnswersAll (texts words.now) history.new
+        (site (F.shelved shelf.old) steps.old) (site (F.shelved shelf.new) steps.new) result }
 {
     match command(words) {
         Some(Command::Run(words)) => run(rt, &words, shelf, gate, steps, history),

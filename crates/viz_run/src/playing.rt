@@ -1,7 +1,7 @@
 //! Gives the events of a schedule to a machine, and writes the frames and the log.
-ghost use Rattle.std.specs.Prelude.{◌≡◌, ◌≢◌, ◌+◌, ℕ, All, Some, [], ◌∷◌, take, OnOk, OnErr, IfOk};
+ghost use Rattle.std.specs.Prelude.{◌≡◌, ◌≢◌, ◌+◌, ℕ, All, Some, [], take, OnOk, OnErr, IfOk};
 ghost use Rattle.vz_base.specs.declared.limits.TheConstants.{DEFAULT_BUFFERS};
-ghost use Rattle.vz_player.specs.Written.{AreWhole, AreBegun, KeepsAllBut};
+ghost use Rattle.vz_player.specs.Written.{WritesAll, WritesSome};
 ghost use Rattle.vz_outside.specs.Shelved.{Writing, KeepsOthers, Appends, AppendsFront, Behaves};
 ghost use Rattle.vz_rules.specs.Frames.{painted};
 ghost use Rattle.vz_rules.specs.Log.{rest_of};
@@ -53,17 +53,16 @@ where
     requires apart { words.now.frames.now ≢ words.now.log.now }
     requires empty { history.old ≡ [] }
     ensures history { OnOk result (IsHistory (M.state machine).plan events.now history.new) }
-    ensures whole { OnOk result (AreWhole
-        (outputs_for words.now (M.state machine).plan history.new) (F.shelved shelf.new)) }
+    ensures whole { OnOk result (WritesAll
+        (outputs_for words.now (M.state machine).plan history.new)
+        (F.shelved shelf.old) (F.shelved shelf.new)) }
     ensures counted { OnOk result (steps.new
         ≡ steps.old + painted (M.state machine).plan history.new DEFAULT_BUFFERS) }
     ensures front { OnErr result ((n : ℕ)
         × IsHistory (M.state machine).plan (take n events.now) history.new) }
-    ensures begun { OnErr result (AreBegun
+    ensures begun { OnErr result (WritesSome
         (outputs_for words.now (M.state machine).plan history.new)
         (F.shelved shelf.old) (F.shelved shelf.new)) }
-    ensures others { KeepsAllBut (words.now.frames.now ∷ words.now.log.now ∷ [])
-        (F.shelved shelf.old) (F.shelved shelf.new) }
     ensures behaves { Behaves (F.shelved shelf.old) (F.shelved shelf.new) result }
 {
     let outputs = create_outputs(shelf, words.frames, words.log)?;

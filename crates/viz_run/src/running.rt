@@ -1,17 +1,9 @@
 //! The command `run`: a thread for each client, beside the display.
-ghost use Rattle.std.specs.Prelude.{◌≡◌, ◌≤◌, [], IsTrue, string_bytes};
-ghost use Rattle.std.specs.Prelude.{IfOk, IfErr, OnErr, IsErrOf};
-ghost use Rattle.viz_run.specs.Read.{MissesOne};
-ghost use Rattle.viz_run.specs.declared.refused.Refused.{Refused as Refusal};
-ghost use Rattle.vz_player.specs.Written.{KeepsAllBut};
+ghost use Rattle.std.specs.Prelude.{◌≡◌, [], IsTrue};
 ghost use Rattle.vz_rules.specs.Command.{fits_command};
-ghost use Rattle.viz_run.specs.Commands.{input_names, output_names};
-ghost use Rattle.viz_run.specs.Causes.{DoesFor, RefusesFor, LeavesFor};
-ghost use Rattle.viz_run.specs.Ends.{IsUnbegun};
+ghost use Rattle.viz_run.specs.Answered.{AnswersFor};
 ghost use Rattle.viz_run.specs.Ran.{command_of};
 ghost use Rattle.viz_run.specs.Site.{site};
-ghost use Rattle.viz_run.specs.Stops.{Behaves, IsRefusal};
-ghost use Rattle.viz_run.specs.declared.stop.Stop.TheVariants as stops;
 
 use crate::coursing::play_run;
 use crate::end::End;
@@ -44,22 +36,8 @@ where
     R: Threads + Wait + AllocGlobal + Sync,
     requires fits { IsTrue (fits_command (command_of words.now)) }
     requires empty { history.old ≡ [] }
-    ensures done { IfOk result (λ ended. DoesFor (command_of words.now) history.new
-        (site (F.shelved shelf.old) steps.old) (site (F.shelved shelf.new) steps.new)
-        (string_bytes ended.line) ended.status) }
-    ensures low { IfOk result (λ ended. ended.status ≤ 1) }
-    ensures words { IsErrOf result stops.Words → ⊥ }
-    ensures input { (r : Refusal) → IsErrOf result (stops.Input r)
-        → RefusesFor (command_of words.now) (F.shelved shelf.old) r }
-    ensures unbegun { IfErr result (λ stop. IsRefusal stop → IsUnbegun history.new
-        (site (F.shelved shelf.old) steps.old) (site (F.shelved shelf.new) steps.new)) }
-    ensures front { OnErr result (LeavesFor (command_of words.now) history.new
-        (site (F.shelved shelf.old) steps.old) (site (F.shelved shelf.new) steps.new)) }
-    ensures others { KeepsAllBut (output_names (command_of words.now))
-        (F.shelved shelf.old) (F.shelved shelf.new) }
-    ensures behaves { Behaves
-        (MissesOne (input_names (command_of words.now)) (F.shelved shelf.old))
-        (F.shelved shelf.old) (F.shelved shelf.new) result }
+    ensures { AnswersFor (command_of words.now) history.new
+        (site (F.shelved shelf.old) steps.old) (site (F.shelved shelf.new) steps.new) result }
 {
     let size = size_of(words.width, words.height);
     let plan = read_plan(rt, shelf, size, words.files)?;

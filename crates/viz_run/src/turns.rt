@@ -1,17 +1,9 @@
 //! The command `turns`: clients and the display call one hub on threads, without painting.
-ghost use Rattle.std.specs.Prelude.{◌≡◌, ◌≤◌, ℕ, [], IsTrue, string_bytes};
-ghost use Rattle.std.specs.Prelude.{IfOk, IfErr, OnErr, IsErrOf};
-ghost use Rattle.viz_run.specs.Read.{MissesOne};
-ghost use Rattle.viz_run.specs.declared.refused.Refused.{Refused as Refusal};
-ghost use Rattle.vz_outside.specs.Shelved.{SameFiles};
+ghost use Rattle.std.specs.Prelude.{◌≡◌, ℕ, [], IsTrue};
 ghost use Rattle.vz_rules.specs.Command.{fits_command};
-ghost use Rattle.viz_run.specs.Commands.{input_names};
-ghost use Rattle.viz_run.specs.Causes.{DoesFor, RefusesFor, LeavesFor};
-ghost use Rattle.viz_run.specs.Ends.{IsUnbegun};
+ghost use Rattle.viz_run.specs.Answered.{AnswersFor};
 ghost use Rattle.viz_run.specs.Site.{site};
-ghost use Rattle.viz_run.specs.Stops.{Behaves, IsRefusal};
 ghost use Rattle.viz_run.specs.Turned.{command_of};
-ghost use Rattle.viz_run.specs.declared.stop.Stop.TheVariants as stops;
 
 use crate::end::End;
 use crate::lines::done_line;
@@ -41,21 +33,8 @@ where
     R: Threads + Wait + AllocGlobal + Sync,
     requires fits { IsTrue (fits_command (command_of words.now)) }
     requires empty { history.old ≡ [] }
-    ensures done { IfOk result (λ ended. (steps : ℕ) → DoesFor (command_of words.now) history.new
-        (site (F.shelved shelf.old) steps) (site (F.shelved shelf.new) steps)
-        (string_bytes ended.line) ended.status) }
-    ensures low { IfOk result (λ ended. ended.status ≤ 1) }
-    ensures words { IsErrOf result stops.Words → ⊥ }
-    ensures input { (r : Refusal) → IsErrOf result (stops.Input r)
-        → RefusesFor (command_of words.now) (F.shelved shelf.old) r }
-    ensures unbegun { IfErr result (λ stop. IsRefusal stop → (steps : ℕ) → IsUnbegun history.new
-        (site (F.shelved shelf.old) steps) (site (F.shelved shelf.new) steps)) }
-    ensures front { OnErr result ((steps : ℕ) → LeavesFor (command_of words.now) history.new
-        (site (F.shelved shelf.old) steps) (site (F.shelved shelf.new) steps)) }
-    ensures files { SameFiles (F.shelved shelf.old) (F.shelved shelf.new) }
-    ensures behaves { Behaves
-        (MissesOne (input_names (command_of words.now)) (F.shelved shelf.old))
-        (F.shelved shelf.old) (F.shelved shelf.new) result }
+    ensures { (steps : ℕ) → AnswersFor (command_of words.now) history.new
+        (site (F.shelved shelf.old) steps) (site (F.shelved shelf.new) steps) result }
 {
     let size = size_of(words.width, words.height);
     let plan = read_plan(rt, shelf, size, words.files)?;

@@ -1,26 +1,20 @@
 -- What a closed hub's history has.
 use Rattle.std.specs.Prelude.{slice_index, slice_get}
 use Rattle.std.proofs.Common.{◌≡◌, ℕ, zero, suc, ◌+◌, ◌-◌, ◌<◌, ◌≤◌, false, ◌==◌, ◌⊎◌, inl, inr, Option, Some, List, [], ◌∷◌, ◌++◌, map, length, refl, ap, sym, ◌∙◌, subst, arith, ne_eqb}
-use Rattle.std.proofs.lemmas.List.{length-map, length-replicate}
+use Rattle.std.proofs.{lemmas.List.length-map, lemmas.List.length-replicate, lemmas.Bool.Decides.nat_tests}
 use Rattle.atomic_table.specs.Seated.{TableId}
-use Rattle.vz_loans.specs.Rule.{places, weight}
-use Rattle.vz_loans.specs.Tokens.{Caller, numbered, unused_from, IsClosedBy}
+use Rattle.vz_loans.specs.{Rule.places, Rule.weight, Tokens.Caller, Tokens.numbered, Tokens.unused_from, Tokens.IsClosedBy}
 use Rattle.vz_loans.proofs.Closing.{Each, each_of, each_init, each_rest, each_on}
 use Rattle.vz_frame.specs.declared.message.ClientFile.{ClientFile}
-use Rattle.vz_rules.specs.Plan.{Plan, message_counts}
-use Rattle.vz_rules.specs.World.{file_of}
+use Rattle.vz_rules.specs.{Plan.Plan, Plan.message_counts, World.file_of, Course.displayed, Whole.mine as mine_in, declared.entry.Entry.Entry}
 use Rattle.vz_rules.specs.Step.{Legal}
-use Rattle.vz_rules.specs.Course.{displayed}
-use Rattle.vz_rules.specs.Whole.{mine as mine_in}
-use Rattle.vz_rules.specs.declared.entry.Entry.{Entry}
 use Rattle.vz_rules.specs.declared.entry.Event.TheVariants as event
-use Rattle.vz_turn.specs.Calls.{IsClosed}
-use Rattle.vz_turn.specs.Own.{own_entries, made_with}
+use Rattle.vz_turn.specs.{Calls.IsClosed, Own.own_entries, Own.made_with}
 use Rattle.vz_turn.proofs.Owned.{own_count, own_closed}
-use Rattle.vz_callers.specs.Callers.{events_in, events_of, calls_of, IsClient}
+use Rattle.vz_callers.specs.{Callers.events_in, Callers.events_of, Callers.calls_of, Callers.IsClient, Turns.rounds, Turns.IsTurns}
 use Rattle.vz_callers.specs.Crews.{messages_of, numbers_of, HasCalledAll}
-use Rattle.vz_callers.specs.Turns.{rounds, IsTurns}
 use Rattle.vz_callers.proofs.Sorting.{IsEventOf, IsEntryOf, IsSorted, sorted_by, each_event, rounds_display, calls_client, displayed_own, mine_own}
+use Rattle.vz_rules.proofs.Members.{at_within as inside}
 
 -- Lists
 
@@ -31,12 +25,6 @@ each_both P Q (x ∷ xs) h k = ((h.0, k.0), each_both P Q xs h.1 k.1)
 empty_is : {A : Type 0} (xs : List A) → length xs ≡ 0 → xs ≡ []
 empty_is [] none = refl
 empty_is (x ∷ xs) none = absurd (omega (arith, none))
-
--- a file that is there, and what was counted of it
-inside : {A : Type 0} (xs : List A) (k : ℕ) (x : A) → slice_get xs k ≡ Some x → k < length xs
-inside [] k x at = absurd (cc)
-inside (y ∷ xs) zero x at = omega arith
-inside (y ∷ xs) (suc k) x at = omega (arith, inside xs k x at)
 
 some_same : {A : Type 0} (a b : A) → ◌≡◌ {A = Option A} (Some a) (Some b) → a ≡ b
 some_same a b e = cc
@@ -125,11 +113,7 @@ module _ (id : TableId) (p q : Plan) (messages : List ℕ) (ticks : ℕ) (h : Li
 
   each_entry : (n : ℕ) → Each (IsEntryOf n) (own_entries n closed.log)
   each_entry zero = subst (Each (IsEntryOf 0)) (sym display_own) (of_display (made_with display) ticks played)
-  each_entry (suc n) =
-      elim (order (suc n) (length p.files)) [
-        | inl l ↦ of_client n (own_entries (suc n) closed.log) (messages_of messages (suc n)) (client_events (suc n) (omega arith) l)
-        | inr l ↦ subst (Each (IsEntryOf (suc n))) (sym (no_stranger (suc n) l)) tt
-      ]
+  each_entry (suc n) = grind (arith, nat_tests, order (suc n) (length p.files), of_client n (own_entries (suc n) closed.log) (messages_of messages (suc n)), client_events (suc n), no_stranger (suc n))
 
   sorted : IsSorted closed.log
   sorted = sorted_by closed.log each_entry

@@ -1,36 +1,18 @@
 -- What the calls of all callers come to.
-use Rattle.std.specs.Prelude.{All, Result, Ok, Err, OnOk, remove}
+use Rattle.std.specs.Prelude.{All, Result, Ok, Err, OnOk}
 use Rattle.std.proofs.lemmas.List.{length-map}
 use Rattle.vz_frame.specs.declared.message.ClientFile.{ClientFile}
-use Rattle.std.proofs.Common.{◌≡◌, ℕ, zero, suc, ◌+◌, Bool, true, Option, Some, List, [], ◌∷◌, ◌++◌, length, get_or, refl, ap, sym, ◌∙◌, subst, arith}
+use Rattle.std.proofs.Common.{◌≡◌, ℕ, zero, suc, ◌+◌, Bool, true, Option, Some, List, [], ◌∷◌, ◌++◌, length, refl, ap, sym, ◌∙◌, subst, arith}
 use Rattle.atomic_table.specs.Seated.{TableId}
 use Rattle.vz_loans.specs.Tokens.{Caller, unused, unused_from, IsAtRest}
 use Rattle.vz_loans.proofs.Closing.{each_of, all_of, each_on}
-use Rattle.vz_rules.specs.Plan.{Plan, message_counts}
-use Rattle.vz_rules.specs.Step.{Legal, LegalFrom}
-use Rattle.vz_rules.specs.declared.entry.Entry.{Entry}
+use Rattle.vz_rules.specs.{Plan.Plan, Plan.message_counts, Step.Legal, Step.LegalFrom, declared.entry.Entry.Entry}
 use Rattle.vz_turn.specs.Calls.{IsClosed}
-use Rattle.vz_callers.specs.Callers.{events_of, Stays, IsClient}
-use Rattle.vz_callers.specs.Crews.{numbers_of, HasCalledAll, IsBack}
+use Rattle.vz_callers.specs.{Callers.events_of, Callers.Stays, Callers.IsClient, Crews.numbers_of, Crews.HasCalledAll, Crews.IsBack}
 use Rattle.vz_callers.specs.Turns.{rounds, IsTurns}
-use Rattle.vz_callers.proofs.Called.{rests_then}
-use Rattle.vz_callers.proofs.Crewing.{all_pushed}
-use Rattle.vz_callers.proofs.Ended.{turns, plan_is}
+use Rattle.vz_callers.proofs.{Called.rests_then, Crewing.all_pushed, Ended.turns, Ended.plan_is}
 
 -- The passes of a new hub
-
-next_is : (n : ℕ) → n + 1 ≡ suc n
-next_is n = omega arith
-
-module _ (id : TableId) (o : Option Plan) (n : ℕ) (items : List (Caller Plan Entry)) (is : items ≡ unused_from id o 0 (n + 1)) where
-  items_are : items ≡ unused id o 0 ∷ unused_from id o 1 n
-  items_are = is ∙ ap (unused_from {P = Plan} {E = Entry} id o 0) (next_is n)
-
-  pub first_is : (d : Caller Plan Entry) → d ≡ get_or items 0 d → d ≡ unused id o 0
-  first_is d at = at ∙ ap (λ (l : List (Caller Plan Entry)). get_or l 0 d) items_are
-
-  pub others_are : (left : List (Caller Plan Entry)) → left ≡ remove items 0 → left ≡ unused_from id o 1 n
-  others_are left removed = removed ∙ ap (λ (l : List (Caller Plan Entry)). remove l 0) items_are
 
 pub unused_count : (id : TableId) (o : Option Plan) (k n : ℕ) → length (unused_from {P = Plan} {E = Entry} id o k n) ≡ n
 unused_count id o k zero = refl

@@ -1,16 +1,12 @@
 -- A log in which each entry is of its caller's event.
-use Rattle.std.proofs.Common.{◌≡◌, ℕ, zero, suc, ◌≤◌, Bool, true, false, not, cond, ◌==◌, List, [], ◌∷◌, map, filter, refl, ap, sym, ◌∙◌, arith, eq-eqb, ne_eqb}
+use Rattle.std.proofs.Common.{◌≡◌, ℕ, zero, suc, ◌≤◌, Bool, true, false, not, cond, ◌==◌, List, [], ◌∷◌, map, filter, refl, arith, eq-eqb}
 use Rattle.vz_loans.specs.Rule.{Log}
 use Rattle.vz_loans.proofs.Closing.{Each}
-use Rattle.vz_rules.specs.Course.{is_of_client, displayed}
-use Rattle.vz_rules.specs.Whole.{is_of, mine}
-use Rattle.vz_rules.specs.declared.entry.Entry.{Entry}
-use Rattle.vz_rules.specs.declared.entry.Event.{Event}
+use Rattle.vz_rules.specs.{Course.is_of_client, Course.displayed, Whole.mine, declared.entry.Entry.Entry, declared.entry.Event.Event}
 use Rattle.vz_rules.specs.declared.entry.Event.TheVariants as event
-use Rattle.vz_turn.specs.Own.{own_entries}
-use Rattle.vz_turn.specs.Registers.{entries_of}
-use Rattle.vz_callers.specs.Callers.{events_in, calls_of}
-use Rattle.vz_callers.specs.Turns.{rounds}
+use Rattle.vz_turn.specs.{Own.own_entries, Registers.entries_of}
+use Rattle.vz_callers.specs.{Callers.events_in, Callers.calls_of, Turns.rounds}
+use Rattle.std.proofs.lemmas.Bool.Decides.{nat_tests}
 
 -- the event is one that a caller with this number calls for: 0 is the display's
 abbrev pub IsEventOf : ℕ → Event → Type 0
@@ -29,12 +25,10 @@ IsSorted (x ∷ xs) = IsEntryOf x.0 x.1 × IsSorted xs
 
 module _ {A : Type 0} (P : A → Type 0) (x : A) (xs : List A) where
   first_kept : (b : Bool) → b ≡ true → Each P (cond b (x ∷ xs) xs) → P x
-  first_kept true is h = h.0
-  first_kept false is h = absurd (cc)
+  first_kept b is h = grind (arith, nat_tests)
 
   rest_kept : (b : Bool) → Each P (cond b (x ∷ xs) xs) → Each P xs
-  rest_kept true h = h.1
-  rest_kept false h = h
+  rest_kept b h = grind (arith, nat_tests)
 
 pub sorted_by : (log : Log Entry) → ((n : ℕ) → Each (IsEntryOf n) (own_entries n log)) → IsSorted log
 sorted_by [] h = tt
@@ -66,24 +60,10 @@ filter_own t n [] s h = refl
 filter_own t n (x ∷ xs) s h = kept_same (t x.1) (x.0 == n) x.1 (filter t (map (λ y. y.1) xs)) (own_entries n xs) (h x.0 x.1 s.0) (filter_own t n xs s.1 h)
 
 display_test : (m : ℕ) (e : Entry) → IsEntryOf m e → not (is_of_client e.event) ≡ (m == 0)
-display_test zero e is = ap not is
-display_test (suc m) e is = ap (λ (v : Event). not (is_of_client v)) is ∙ sym (ne_eqb (suc m) 0 (λ q. absurd (omega (arith, q))))
+display_test m e is = grind (arith, nat_tests)
 
 is_of_event : ℕ → Event → Bool
 is_of_event c v = elim v [ event.Client d ↦ d == c | _ ↦ false ]
-
-other_event : (c : ℕ) (v : Event) → is_of_client v ≡ false → is_of_event c v ≡ false
-unfolding is_of_event
-other_event c (event.Client d) is = absurd (cc)
-other_event c event.Begin is = refl
-other_event c event.Draw is = refl
-other_event c event.Done is = refl
-other_event c event.Over is = refl
-
-client_test : (c m : ℕ) (e : Entry) → IsEntryOf m e → is_of (suc c) e ≡ (m == suc c)
-unfolding is_of_event
-client_test c zero e is = other_event (suc c) e.event is ∙ sym (ne_eqb 0 (suc c) (λ q. absurd (omega (arith, q))))
-client_test c (suc m) e is = ap (is_of_event (suc c)) is
 
 -- the display's entries are those of caller 0
 pub displayed_own : (log : Log Entry) → IsSorted log → displayed (entries_of log) ≡ own_entries 0 log
@@ -92,6 +72,5 @@ displayed_own log s = filter_own (λ e. not (is_of_client e.event)) 0 log s disp
 
 -- a client's entries are those of the caller with its number
 pub mine_own : (c : ℕ) (log : Log Entry) → 1 ≤ c → IsSorted log → mine (entries_of log) c ≡ own_entries c log
-unfolding mine entries_of
-mine_own zero log from s = absurd (omega (arith, from))
-mine_own (suc c) log from s = filter_own (is_of (suc c)) (suc c) log s (client_test c)
+unfolding mine entries_of is_of_event
+mine_own c log from s = grind (arith, nat_tests, filter_own)

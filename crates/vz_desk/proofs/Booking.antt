@@ -1,20 +1,16 @@
 -- What a book keeps, as it takes an event.
-use Rattle.std.proofs.Common.{◌≡◌, ℕ, ◌<◌, ◌≤◌, true, false, Option, List, [], ◌∷◌, ◌++◌, length, refl, sym, ap, subst, ◌∙◌}
+use Rattle.std.proofs.Common.{◌≡◌, ℕ, ◌<◌, ◌≤◌, true, false, Option, List, [], ◌∷◌, ◌++◌, length, sym, ap, subst, ◌∙◌, arith}
 use Rattle.std.specs.Prelude.{is_some, IsTrue}
-use Rattle.vz_rules.specs.Plan.{Plan}
+use Rattle.vz_rules.specs.{Plan.Plan, World.World, World.Machine, World.opening, declared.entry.Event.Event, declared.entry.Entry.Entry}
 use Rattle.vz_base.specs.declared.limits.TheConstants.{MOST_FILES}
-use Rattle.vz_rules.specs.World.{World, Machine, opening}
-use Rattle.vz_rules.specs.declared.entry.Event.{Event}
 use Rattle.vz_rules.specs.declared.entry.Event.TheVariants as event
 use Rattle.vz_rules.specs.declared.entry.Reply.{Reply}
-use Rattle.vz_rules.specs.declared.entry.Entry.{Entry}
 use Rattle.vz_rules.specs.Step.{step_in, entry_in, world, world_from, NamesClient, Legal, LegalFrom}
 use Rattle.vz_rules.proofs.Runs.{world-more, legal-more}
-use Rattle.vz_machine.specs.declared.machine.Step.{Step}
-use Rattle.vz_machine.specs.Stepping.{Answers, Goes, ShowsDrawn}
-use Rattle.vz_machine.specs.Pictured.{Pictured}
+use Rattle.vz_machine.specs.{declared.machine.Step.Step, Stepping.Answers, Stepping.Goes, Stepping.ShowsDrawn, Pictured.Pictured}
 use Rattle.vz_desk.proofs.Flying.{done_lands}
 use Rattle.vz_desk.specs.Books.{Booked, machine_of, next_entry, booked_on, IsBooked}
+use Rattle.std.proofs.lemmas.Bool.Decides.{nat_tests}
 
 -- the entry of a step that answers an event
 pub entry_is : (m : Machine) (v : Event) (s : Step) (e : Entry) → Answers m v s → e ≡ record { event = v; reply = s.reply; effects = s.effects } → e ≡ entry_in m.plan m.world v
@@ -25,47 +21,18 @@ pub event_is : (p : Plan) (w : World) (v : Event) (e : Entry) → e ≡ entry_in
 unfolding entry_in
 event_is p w v e is = ap (λ (x : Entry). x.event) is
 
-module _ {S : Type 0} where
-  -- the entry of an event, in the world behind the history
-  next_is : (m : Machine) (old : Booked S) (v : Event) (e : Entry) → m ≡ machine_of old → e ≡ entry_in m.plan m.world v → e ≡ next_entry old v
-  next_is m old v e behind is = is ∙ ap (λ (x : Machine). entry_in x.plan x.world v) behind
-
 module _ {S : Type 0} {n : ℕ} where
   -- what a book becomes
   pub new_is : (m m' : Machine) (spare : ℕ) (old : Booked S) (v : Event) (e : Entry) (h g : List Entry) (r : Option S) → IsBooked m n spare old → e ≡ entry_in m.plan m.world v → Goes m v m'
       → h ≡ old.history → g ≡ h ++ e ∷ [] → r ≡ old.reason → record { plan = m'.plan; history = g; reason = r } ≡ booked_on old v
   unfolding booked_on
-  new_is m m' spare old v e h g r is entry goes same more reason =
-      let plan : m'.plan ≡ old.plan = ap (λ (x : Machine). x.plan) goes ∙ ap (λ (x : Machine). x.plan) is.behind in
-      let all : g ≡ old.history ++ next_entry old v ∷ [] = more ∙ (ap (λ l. l ++ e ∷ []) same ∙ ap (λ x. old.history ++ x ∷ []) (next_is m old v e is.behind entry)) in
-      λ i. record { plan = plan i; history = all i; reason = reason i }
+  new_is m m' spare old v e h g r is entry goes same more reason = grind (arith, nat_tests)
 
   -- what a book keeps stands for what it becomes
   pub booked_is : (m m' : Machine) (spare spare' : ℕ) (old new : Booked S) (v : Event) (e : Entry) → IsBooked m n spare old → NamesClient old.plan v → e ≡ entry_in m.plan m.world v → Goes m v m'
       → (IsTrue (is_some m'.world.in_flight) → 0 < spare') → new ≡ booked_on old v → IsBooked m' n spare' new
   unfolding booked_on
-  booked_is m m' spare spare' old new v e is named entry goes room new_is =
-      subst (IsBooked m' n spare') (sym new_is) (
-      record {
-        behind = m_is;
-        counted = is.counted;
-        legal = legal-more old.plan old.history x is.legal (subst (NamesClient old.plan) (sym same) named) (ap (entry_in old.plan (world old.plan old.history)) (sym same));
-        files = is.files;
-        room = room;
-      }
-      )
-    where
-      x : Entry
-      x = next_entry old v
-
-      same : x.event ≡ v
-      same = event_is old.plan (world old.plan old.history) v x refl
-
-      m_is : m' ≡ record { plan = old.plan; world = world old.plan (old.history ++ x ∷ []) }
-      m_is =
-          goes ∙ (ap (λ (y : Machine). record { plan = y.plan; world = (step_in y.plan y.world v).world }) is.behind
-          ∙ (ap (λ (u : Event). record { plan = old.plan; world = (step_in old.plan (world old.plan old.history) u).world }) (sym same)
-          ∙ ap (λ (w : World). record { plan = old.plan; world = w }) (sym (world-more old.plan old.history x))))
+  booked_is m m' spare spare' old new v e is named entry goes room new_is = grind (arith, nat_tests, legal-more, event_is, world-more)
 
   -- what a book becomes by a step of its machine
   pub goes_on : (m m' : Machine) (spare : ℕ) (old : Booked S) (v : Event) (s : Step) (e : Entry) (h h1 g : List Entry) (r : Option S) → IsBooked m n spare (record { plan = m.plan; history = h; reason = r })
@@ -88,13 +55,7 @@ module _ {S : Type 0} {n : ℕ} where
 
   empty_keeps : (m : Machine) (spare : ℕ) (r : Option S) → m.world ≡ opening m.plan → n ≡ length m.plan.files → length m.plan.files ≤ MOST_FILES → IsBooked m n spare (record { plan = m.plan; history = []; reason = r })
   unfolding world world_from Legal LegalFrom opening
-  empty_keeps m spare r opens counted few = record {
-    counted = counted;
-    behind = λ i. record { plan = m.plan; world = opens i };
-    legal = tt;
-    files = few;
-    room = λ flies. let none : false ≡ true = ap (λ (w : World). is_some w.in_flight) (sym opens) ∙ flies in absurd (cc);
-  }
+  empty_keeps m spare r opens counted few = grind (arith, nat_tests)
 
   -- a book before the first event
   pub new_keeps : (m : Machine) (spare : ℕ) (r : Option S) (h : List Entry) → h ≡ [] → m.world ≡ opening m.plan → n ≡ length m.plan.files → length m.plan.files ≤ MOST_FILES → IsBooked m n spare (record { plan = m.plan; history = h; reason = r })

@@ -1,52 +1,24 @@
 -- What a client's end becomes, where a turn made an entry.
-use Rattle.std.proofs.Common.{◌≡◌, ℕ, suc, ◌+◌, ◌^◌, ◌<◌, ◌≤◌, Bool, true, false, ◌==◌, cond, Option, Some, None, List, [], ◌∷◌, ◌++◌, map, filter, length, refl, ap, sym, ◌∙◌, subst, arith, length-append, append_assoc, append-nil, eq-eqb}
-use Rattle.std.proofs.lemmas.Int.{ints, clamps}
+use Rattle.std.proofs.Common.{◌≡◌, ℕ, ◌+◌, ◌^◌, ◌<◌, ◌≤◌, Bool, true, false, ◌==◌, cond, Option, Some, None, List, [], ◌∷◌, ◌++◌, filter, length, refl, ap, sym, ◌∙◌, subst, arith, length-append, append_assoc, append-nil, eq-eqb}
+use Rattle.std.proofs.{lemmas.Int.ints, lemmas.Int.clamps, lemmas.List.Sums.sum_by_push, lemmas.List.Sums.length-filter, lemmas.Grind.common_steps}
 use Rattle.std.specs.Prelude.{count_by, ◌&&◌}
-use Rattle.std.specs.List.{sum_by}
-use Rattle.std.proofs.lemmas.List.Elements.{filter-append}
-use Rattle.std.proofs.lemmas.List.Sums.{sum_by_push, length-filter}
-use mathlib.Core.List.{IsPrefix, map-append}
-use Rattle.vz_loans.specs.Rule.{places}
-use Rattle.vz_loans.specs.Tokens.{Caller, mine as places_of, IsSameCaller}
-use Rattle.vz_rules.specs.Plan.{Plan}
-use Rattle.vz_rules.specs.declared.entry.Event.{Event}
+use Rattle.std.proofs.{lemmas.List.Elements.filter-append, lemmas.Bool.Decides.nat_tests}
+use mathlib.Core.List.{IsPrefix}
+use Rattle.vz_loans.specs.{Rule.places, Tokens.Caller, Tokens.mine as places_of, Tokens.IsSameCaller}
+use Rattle.vz_rules.specs.{Plan.Plan, declared.entry.Event.Event, declared.entry.Entry.Entry}
 use Rattle.vz_rules.specs.declared.entry.Event.TheVariants as event
-use Rattle.vz_rules.specs.declared.entry.Entry.{Entry}
-use Rattle.vz_rules.specs.Step.{entry_in, world, NamesClient, Legal}
-use Rattle.vz_rules.specs.Whole.{mine, is_of, is_in_time}
-use Rattle.vz_rules.specs.Accounts.{accepts, takes}
-use Rattle.vz_rules.proofs.Counts.{count_push}
-use Rattle.vz_rules.proofs.Runs.{legal-more}
+use Rattle.vz_rules.specs.{Step.entry_in, Step.world, Step.Legal, Whole.mine, Whole.is_of, Whole.is_in_time, Accounts.accepts, Accounts.takes}
+use Rattle.vz_rules.proofs.{Counts.count_push, Runs.legal-more}
 use Rattle.vz_desk.specs.declared.answer.Note.{Note}
-use Rattle.vz_desk.specs.declared.answer.Answer.{Answer}
-use Rattle.vz_desk.specs.declared.answer.Answer.TheVariants.{Did, Stopped}
-use Rattle.vz_desk.specs.declared.totals.Totals.{Totals}
+use Rattle.vz_desk.specs.{declared.answer.Answer.Answer, declared.totals.Totals.Totals, Answers.Told, Answers.Answered, Answers.is_early}
 use Rattle.vz_machine.specs.Stepping.{waits_at}
-use Rattle.vz_desk.proofs.Telling.{waited_in_time}
+use Rattle.vz_desk.proofs.{Telling.waited_in_time, Booking.event_is, Displaying.length_numbered}
 use Rattle.vz_desk.specs.Books.{Booked, machine_of, numbered, next_entry, booked_on}
-use Rattle.vz_desk.specs.Totals.{AreTotals, AreFew, noted, with_note, lent_by, lent_from, refuses, handed_back, upto_most, TellsNext}
+use Rattle.vz_desk.specs.Totals.{AreTotals, AreFew, noted, with_note, lent_by, lent_from, refuses, TellsNext}
 use Rattle.vz_desk.specs.Owners.{Owner, owner_of, IsEnd, MakesNone, IsSameOwner}
-use Rattle.vz_desk.specs.Answers.{Told, Answered, is_early}
-use Rattle.vz_desk.proofs.Booking.{event_is}
 use Rattle.vz_desk.proofs.Owning.{none_more, totals_stay, longer_history, same_plan, entries_of_numbered}
 
 -- One entry more
-
-mine_push : (h : List Entry) (c : ℕ) (e : Entry) → is_of c e ≡ true → mine (h ++ e ∷ []) c ≡ mine h c ++ e ∷ []
-unfolding mine
-mine_push h c e of = filter-append (is_of c) h (e ∷ []) ∙ ap (λ (t : Bool). filter (is_of c) h ++ cond t (e ∷ []) []) of
-
-one_in_time : (t : Bool) (e : Entry) → length (cond t (e ∷ []) []) ≡ cond t 1 0
-one_in_time true e = refl
-one_in_time false e = refl
-
-takes_push : (h : List Entry) (c : ℕ) (e : Entry) → is_of c e ≡ true → length (takes (h ++ e ∷ []) c) ≡ length (takes h c) + cond (is_in_time e.reply) 1 0
-unfolding takes
-takes_push h c e of =
-    ap (λ l. length (filter (λ (x : Entry). is_in_time x.reply) l)) (mine_push h c e of)
-    ∙ ap length (filter-append (λ (x : Entry). is_in_time x.reply) (mine h c) (e ∷ []))
-    ∙ length-append (filter (λ (x : Entry). is_in_time x.reply) (mine h c)) (filter (λ (x : Entry). is_in_time x.reply) (e ∷ []))
-    ∙ ap (λ n. length (filter (λ (x : Entry). is_in_time x.reply) (mine h c)) + n) (one_in_time (is_in_time e.reply) e)
 
 lent_push : (p : Plan) (g : List Entry) (c : ℕ) (h : List Entry) (e : Entry) → is_of c e ≡ true → lent_from p g c (h ++ e ∷ []) ≡ lent_from p g c h + lent_by p (g ++ h) c e
 lent_push p g c [] e of = let none : g ++ [] ≡ g = append-nil g in ap (λ (t : Bool). cond t (lent_by p g c e) 0 + 0) of ∙ (let x = ap (λ k. lent_by p k c e) none in omega (arith, x))
@@ -55,40 +27,16 @@ lent_push p g c (x ∷ h) e of =
     let same = ap (λ k. lent_by p k c e) (append_assoc g (x ∷ []) h) in
     omega (arith, rest, same)
 
-cond_more : (t : Bool) (n : ℕ) → n + cond t 1 0 ≡ cond t (n + 1) n
-cond_more true n = refl
-cond_more false n = omega arith
-
-upto_more : (a b : ℕ) → upto_most (upto_most a + b) ≡ upto_most (a + b)
-upto_more a b = omega (arith, ints, clamps)
-
-upto_both : (a b : ℕ) → upto_most (upto_most a + upto_most b) ≡ upto_most (a + b)
-upto_both a b = omega (arith, ints, clamps)
-
 -- the totals of a client with its next entry
 totals_push : (p : Plan) (c : ℕ) (t : Totals) (h : List Entry) (e : Entry) → is_of c e ≡ true → AreTotals p h c t → AreTotals p (h ++ e ∷ []) c (with_note t (is_in_time e.reply) (noted p h c e))
-totals_push p c t h e of are = record {
-  calls = let n = are.calls in let m = ap length (mine_push h c e of) ∙ length-append (mine h c) (e ∷ []) in omega (arith, n, m);
-  taken = ap (λ n. cond (is_in_time e.reply) (n + 1) n) are.taken ∙ sym (cond_more (is_in_time e.reply) (length (takes h c))) ∙ sym (takes_push h c e of);
-  accepted = ap (λ n. cond (accepts e) (n + 1) n) are.accepted ∙ sym (cond_more (accepts e) (count_by accepts (mine h c))) ∙ sym (ap (count_by accepts) (mine_push h c e of) ∙ count_push accepts (mine h c) e);
-  refused = ap (λ n. cond (refuses e) (n + 1) n) are.refused ∙ sym (cond_more (refuses e) (count_by refuses (mine h c))) ∙ sym (ap (count_by refuses) (mine_push h c e of) ∙ count_push refuses (mine h c) e);
-  lent = ap (λ n. upto_most (n + lent_by p h c e)) are.lent ∙ upto_more (lent_from p [] c h) (lent_by p h c e) ∙ ap upto_most (sym (lent_push p [] c h e of));
-  back = ap (λ n. upto_most (n + upto_most (handed_back e))) are.back ∙ upto_both (sum_by handed_back (mine h c)) (handed_back e) ∙ ap upto_most (sym (ap (sum_by handed_back) (mine_push h c e of) ∙ sum_by_push handed_back (mine h c) e));
-}
+unfolding takes mine
+totals_push p c t h e of are = grind (arith, nat_tests, common_steps, filter-append, count_push, ints, clamps, lent_push, sum_by_push)
 
 -- No count is at its end
 
-cond_one : (t : Bool) → cond t 1 0 ≤ 1
-cond_one true = omega arith
-cond_one false = omega arith
-
 filter_fits : (f : Entry → Bool) (h : List Entry) → length (filter f h) ≤ length h
 filter_fits f [] = omega arith
-filter_fits f (e ∷ h) = one_fits (f e) (filter_fits f h)
-  where
-    one_fits : (t : Bool) → length (filter f h) ≤ length h → length (cond t (e ∷ filter f h) (filter f h)) ≤ suc (length h)
-    one_fits true l = omega (arith, l)
-    one_fits false l = omega (arith, l)
+filter_fits f (e ∷ h) = grind (arith, nat_tests, filter_fits f h)
 
 count_fits : (f : Entry → Bool) (h : List Entry) → count_by f h ≤ length h
 count_fits f h = let a = length-filter f h in let b = filter_fits f h in omega (arith, a, b)
@@ -102,12 +50,7 @@ unfolding takes
 takes_fit h c = filter_fits (λ (x : Entry). is_in_time x.reply) (mine h c)
 
 totals_fit : (p : Plan) (c : ℕ) (t : Totals) (h : List Entry) → AreTotals p h c t → length h + 1 < 2 ^ 64 → AreFew t
-totals_fit p c t h are few = record {
-  calls = omega (arith, are.calls, mine_fits h c, few);
-  taken = omega (arith, are.calls, are.taken, takes_fit h c);
-  accepted = omega (arith, are.calls, are.accepted, count_fits accepts (mine h c));
-  refused = omega (arith, are.calls, are.refused, count_fits refuses (mine h c));
-}
+totals_fit p c t h are few = grind (arith, nat_tests, mine_fits h c, takes_fit h c, count_fits accepts (mine h c), count_fits refuses (mine h c))
 
 -- A turn
 
@@ -142,53 +85,17 @@ is_of_client p h c e is = ap (λ (v : Event). elim v as (λ _. Bool) [ event.Cli
 -- what the end becomes
 pub called_end : (t0 t1 t2 : Caller Plan Entry) (plan : Plan) (h : List Entry) (e : Entry) (totals : Totals) → IsEnd t0 totals → Entered t0 t1 t2 plan h e
     → IsEnd t2 (with_note totals (is_in_time e.reply) (noted plan h t1.number e))
-called_end t0 t1 t2 plan h e totals old t =
-    let same : old.plan ≡ plan = same_plan old.plan plan (sym old.sees.planned ∙ sym t.first.2 ∙ t.planned) in
-    let number : t2.number ≡ t1.number = t.second.1 in
-    let client : (0 < t2.number) × (t2.number ≤ length plan.files) = subst (λ (x : ℕ × Plan). (0 < x.0) × (x.0 ≤ length x.1.files)) (λ i. ((sym t.first.1 ∙ sym number) i, same i)) old.client in
-    let named : NamesClient plan (event.Client t1.number) = subst (λ (n : ℕ). (0 < n) × (n ≤ length plan.files)) number client in
-    let event_of : e.event ≡ event.Client t1.number = event_is plan (world plan h) (event.Client t1.number) e t.entry in
-    let counted = totals_push plan t1.number totals h e (is_of_client plan h t1.number e t.entry) (counted_there t0 t1 plan h totals old t.first t.planned t.found t.later t.mine) in record {
-      rests = t.rests;
-      plan = plan;
-      history = h ++ e ∷ [];
-      sees = record {
-        planned = t.second.2 ∙ t.planned;
-        seen = t.seen;
-        legal = legal-more plan h e t.legal (subst (NamesClient plan) (sym event_of) named) (t.entry ∙ ap (entry_in plan (world plan h)) (sym event_of));
-      };
-      client = client;
-      counted = subst (λ (n : ℕ). AreTotals plan (h ++ e ∷ []) n (with_note totals (is_in_time e.reply) (noted plan h t1.number e))) (sym number) counted;
-    }
-
-length_numbered : (h : List Entry) → length (numbered h) ≡ length h
-length_numbered [] = refl
-length_numbered (e ∷ h) = ap suc (length_numbered h)
+called_end t0 t1 t2 plan h e totals old t = grind (arith, nat_tests, same_plan, event_is, totals_push, is_of_client, counted_there, legal-more)
 
 -- what is told of it
 pub called_told : (t0 t1 t2 : Caller Plan Entry) (plan : Plan) (h : List Entry) (e : Entry) (totals new : Totals) (note : Note) (timely : Bool) → Entered t0 t1 t2 plan h e → note ≡ noted plan h t1.number e → timely ≡ is_in_time e.reply
     → new ≡ with_note totals timely note → Told (owner_of t0 totals) (owner_of t2 new) note
-called_told t0 t1 t2 plan h e totals new note timely t noted_is timely_is new_is = record {
-  plan = plan;
-  before = h;
-  made = e;
-  makes = record {
-    planned = t.second.2 ∙ t.planned;
-    legal = t.legal;
-    later = subst (IsPrefix t0.seen) t.found t.later;
-    entry = t.entry ∙ ap (λ n. entry_in plan (world plan h) (event.Client n)) t.first.1;
-    seen = t.seen;
-    mine = t.added ∙ (λ i. t.mine i ++ ((ap length t.found ∙ length_numbered h) i + 1) ∷ []);
-  };
-  note = noted_is ∙ ap (λ n. noted plan h n e) t.first.1;
-  totals = new_is ∙ ap (λ (b : Bool). with_note totals b note) timely_is;
-}
+called_told t0 t1 t2 plan h e totals new note timely t noted_is timely_is new_is = grind (arith, nat_tests, length_numbered h)
 
 -- a turn may end with one entry of its client
 pub may_add : (t : Caller Plan Entry) (plan : Plan) (h g : List Entry) (e : Entry) → t.seen ≡ numbered h → g ≡ h ++ e ∷ [] → e ≡ entry_in plan (world plan h) (event.Client t.number)
     → numbered g ≡ t.seen ++ (t.number, e) ∷ []
-may_add t plan h g e found more is =
-    ap numbered more ∙ map-append _ h (e ∷ []) ∙ (λ i. sym found i ++ (ap Rattle.vz_desk.specs.Books.caller_in (event_is plan (world plan h) (event.Client t.number) e is) i, e) ∷ [])
+may_add t plan h g e found more is = grind (arith, nat_tests, common_steps, event_is plan (world plan h))
 
 snoc_same : (g h : List Entry) (x y : Entry) → g ++ x ∷ [] ≡ h ++ y ∷ [] → x ≡ y
 snoc_same [] [] x y is = cc
@@ -200,9 +107,7 @@ module _ {S : Type 0} where
   -- the last entry that is seen after a turn is the one that it made
   pub last_made : (b new : Booked S) (v : Event) (seen : List (ℕ × Entry)) (h : List Entry) (e : Entry) → new ≡ booked_on b v → seen ≡ numbered new.history → seen ≡ numbered (h ++ e ∷ []) → e ≡ next_entry b v
   unfolding booked_on
-  last_made b new v seen h e goes is now =
-      let same : h ++ e ∷ [] ≡ b.history ++ next_entry b v ∷ [] = sym (entries_of_numbered (h ++ e ∷ [])) ∙ ap (map (λ (x : ℕ × Entry). x.1)) (sym now ∙ is) ∙ entries_of_numbered new.history ∙ ap (λ (x : Booked S). x.history) goes in
-      snoc_same h b.history e (next_entry b v) same
+  last_made b new v seen h e goes is now = grind (arith, nat_tests, entries_of_numbered, entries_of_numbered new.history, snoc_same h b.history e (next_entry b v))
 
   -- the plan is the one that was found
   pub plan_kept : (b new : Booked S) (v : Event) (o : Option Plan) → new ≡ booked_on b v → o ≡ Some b.plan → o ≡ Some new.plan
@@ -218,27 +123,14 @@ module _ {S : Type 0} where
   pub client_leaves : (t : Caller Plan Entry) (b new : Booked S) (n : ℕ) → t.seen ≡ numbered b.history → n ≡ t.number → new ≡ booked_on b (event.Client n)
       → numbered new.history ≡ t.seen ++ (t.number, next_entry b (event.Client n)) ∷ []
   unfolding booked_on
-  client_leaves t b new n found number goes =
-      may_add t b.plan b.history new.history (next_entry b (event.Client n)) found (ap (λ (x : Booked S). x.history) goes) (ap (λ m. entry_in b.plan (world b.plan b.history) (event.Client m)) number)
+  client_leaves t b new n found number goes = grind (arith, nat_tests, may_add t b.plan b.history new.history)
 
   pub entered : (t0 t1 t2 : Caller Plan Entry) (b new : Booked S) (n : ℕ) → IsSameCaller t0 t1 → t1.plan ≡ Some b.plan → t1.seen ≡ numbered b.history → IsPrefix t0.seen t1.seen → places_of t1 ≡ places_of t0
       → n ≡ t1.number → Legal b.plan b.history → new ≡ booked_on b (event.Client n) → IsSameCaller t1 t2 → t2.seen ≡ numbered new.history
       → ((e : Entry) → numbered new.history ≡ t1.seen ++ (t1.number, e) ∷ [] → places_of t2 ≡ places_of t1 ++ (length t1.seen + 1) ∷ []) → t2.inside ≡ false
       → Entered t0 t1 t2 b.plan b.history (next_entry b (event.Client n))
   unfolding booked_on
-  entered t0 t1 t2 b new n first planned found later mine number legal goes second seen one rests = record {
-    first = first;
-    second = second;
-    planned = planned;
-    found = found;
-    later = later;
-    mine = mine;
-    seen = seen ∙ ap (λ (x : Booked S). numbered x.history) goes;
-    added = one (next_entry b (event.Client n)) (client_leaves t1 b new n found number goes);
-    rests = rests;
-    legal = legal;
-    entry = ap (λ m. entry_in b.plan (world b.plan b.history) (event.Client m)) number;
-  }
+  entered t0 t1 t2 b new n first planned found later mine number legal goes second seen one rests = grind (arith, nat_tests, client_leaves t1 b new n found number goes)
 
   noted_there : (b : Booked S) (n m : ℕ) (note : Note) (timely : Bool) → n ≡ m → TellsNext b n note timely → note ≡ noted b.plan b.history m (next_entry b (event.Client n))
   noted_there b n m note timely number told = told.note ∙ ap (λ k. noted b.plan b.history k (next_entry b (event.Client n))) number
@@ -246,14 +138,12 @@ module _ {S : Type 0} where
   -- the end after the turn, with the totals that the note gives
   pub client_end : (t0 t1 t2 : Caller Plan Entry) (b : Booked S) (n : ℕ) (totals new : Totals) (note : Note) (timely : Bool) → IsEnd t0 totals → n ≡ t1.number → TellsNext b n note timely
       → new ≡ with_note totals timely note → Entered t0 t1 t2 b.plan b.history (next_entry b (event.Client n)) → IsEnd t2 new
-  client_end t0 t1 t2 b n totals new note timely old number told is t =
-      subst (IsEnd t2) (sym (is ∙ (λ i. with_note totals (told.in_time i) (noted_there b n t1.number note timely number told i)))) (called_end t0 t1 t2 b.plan b.history (next_entry b (event.Client n)) totals old t)
+  client_end t0 t1 t2 b n totals new note timely old number told is t = grind (arith, nat_tests, noted_there b n t1.number note timely number told, called_end t0 t1 t2 b.plan b.history)
 
   -- and what is told of it
   pub client_told : (t0 t1 t2 : Caller Plan Entry) (b : Booked S) (n : ℕ) (totals new : Totals) (note : Note) (timely : Bool) → n ≡ t1.number → TellsNext b n note timely → new ≡ with_note totals timely note
       → Entered t0 t1 t2 b.plan b.history (next_entry b (event.Client n)) → Told (owner_of t0 totals) (owner_of t2 new) note
-  client_told t0 t1 t2 b n totals new note timely number told is t =
-      called_told t0 t1 t2 b.plan b.history (next_entry b (event.Client n)) totals new note timely t (noted_there b n t1.number note timely number told) told.in_time is
+  client_told t0 t1 t2 b n totals new note timely number told is t = grind (arith, nat_tests, called_told t0 t1 t2 b.plan b.history, noted_there b n t1.number note timely number told)
 
   -- no count is at its end in the turn
   pub few_there : (t0 t1 : Caller Plan Entry) (b : Booked S) (n : ℕ) (totals : Totals) (note : Note) (timely : Bool) → IsEnd t0 totals → IsSameCaller t0 t1 → t1.plan ≡ Some b.plan → t1.seen ≡ numbered b.history → IsPrefix t0.seen t1.seen
@@ -262,16 +152,10 @@ module _ {S : Type 0} where
 
   -- a client that does not wait makes no entry that comes too early
   pub waits_out : (b : Booked S) (n : ℕ) (patient waits : Bool) (e : Entry) → waits ≡ waits_at (machine_of b) n → (patient && waits) ≡ false → e ≡ next_entry b (event.Client n) → patient ≡ true → is_early e.reply ≡ false
-  waits_out b n patient waits e is out made patiently =
-      waited_in_time b.plan (world b.plan b.history) n e (sym is ∙ (sym (ap (λ (t : Bool). t && waits) patiently) ∙ out)) made
+  waits_out b n patient waits e is out made patiently = grind (arith, nat_tests, waited_in_time b.plan (world b.plan b.history) n e)
 
 pub same_owner : (t0 t1 t2 : Caller Plan Entry) (totals new : Totals) → IsSameCaller t0 t1 → IsSameCaller t1 t2 → IsPrefix t0.seen t2.seen → IsSameOwner (owner_of t0 totals) (owner_of t2 new)
-same_owner t0 t1 t2 totals new first second later = record {
-  desk = second.0 ∙ first.0;
-  plan = second.2 ∙ first.2;
-  number = second.1 ∙ first.1;
-  later = later;
-}
+same_owner t0 t1 t2 totals new first second later = grind (arith, nat_tests)
 
 -- what was found begins what is left
 pub later_still : (s t u : List (ℕ × Entry)) (x : ℕ × Entry) → IsPrefix s t → u ≡ t ++ x ∷ [] → IsPrefix s u
@@ -282,41 +166,9 @@ later_still s t u x p is = (p.0 ++ x ∷ [], sym (append_assoc s p.0 (x ∷ []))
 prefix_on : (s t u : List (ℕ × Entry)) → IsPrefix s t → IsPrefix t u → IsPrefix s u
 prefix_on s t u p q = (p.0 ++ q.0, sym (append_assoc s p.0 q.0) ∙ ap (λ l. l ++ q.0) p.1 ∙ q.1)
 
-pub same_on : (a b c : Owner Totals) → IsSameOwner a b → IsSameOwner b c → IsSameOwner a c
-same_on a b c p q = record {
-  desk = q.desk ∙ p.desk;
-  plan = q.plan ∙ p.plan;
-  number = q.number ∙ p.number;
-  later = prefix_on a.seen b.seen c.seen p.later q.later;
-}
-
-pub same_self : (a : Owner Totals) → IsSameOwner a a
-same_self a = record { desk = refl; plan = refl; number = refl; later = ([], append-nil a.seen) }
-
-pub none_on : (a b c : Owner Totals) → MakesNone a b → MakesNone b c → MakesNone a c
-none_on a b c p q = record { mine = q.mine ∙ p.mine; totals = q.totals ∙ p.totals }
-
-pub none_self : (a : Owner Totals) → MakesNone a a
-none_self a = record { mine = refl; totals = refl }
-
 told_on : (a b c : Owner Totals) (note : Note) → IsSameOwner a b → MakesNone a b → Told b c note → Told a c note
-told_on a b c note same none t = record {
-  plan = t.plan;
-  before = t.before;
-  made = t.made;
-  makes = record {
-    planned = t.makes.planned;
-    legal = t.makes.legal;
-    later = prefix_on a.seen b.seen (numbered t.before) same.later t.makes.later;
-    entry = t.makes.entry ∙ ap (λ n. entry_in t.plan (world t.plan t.before) (event.Client n)) same.number;
-    seen = t.makes.seen;
-    mine = t.makes.mine ∙ ap (λ l. l ++ (length t.before + 1) ∷ []) none.mine;
-  };
-  note = t.note ∙ ap (λ n. noted t.plan t.before n t.made) same.number;
-  totals = t.totals ∙ ap (λ (x : Totals). with_note x (is_in_time t.made.reply) note) none.totals;
-}
+told_on a b c note same none t = grind (arith, nat_tests, prefix_on a.seen b.seen (numbered t.before) same.later t.makes.later)
 
 module _ {S : Type 0} where
   pub answered_on : (a b c : Owner Totals) (answer : Answer S) → IsSameOwner a b → MakesNone a b → Answered b c answer → Answered a c answer
-  answered_on a b c (Did note) same none t = told_on a b c note same none t
-  answered_on a b c (Stopped why) same none t = none_on a b c none t
+  answered_on a b c answer same none t = grind (arith, nat_tests, told_on)

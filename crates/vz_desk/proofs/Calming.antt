@@ -1,40 +1,23 @@
 -- A pause has to wait for no client exactly where each attached client is idle or has answered the tick.
-use Rattle.std.proofs.Common.{◌≡◌, ℕ, ◌+◌, ◌-◌, ◌<◌, ◌≤◌, Bool, true, false, cond, ◌==◌, not, ◌&&◌, ◌||◌, List, [], ◌∷◌, map, length, refl, ap, sym, ◌∙◌, subst, arith, Option, Some, None, find}
+use Rattle.std.proofs.Common.{◌≡◌, ℕ, ◌+◌, ◌-◌, ◌<◌, ◌≤◌, Bool, true, false, cond, ◌==◌, not, ◌&&◌, ◌||◌, List, [], ◌∷◌, map, length, refl, ap, sym, ◌∙◌, subst, arith, Option, Some, find}
 use mathlib.Core.Logic.{dite}
 use native.Mathlib.Decide.{ℕ_discrete}
 use Rattle.std.specs.List.{list_all}
-use Rattle.std.proofs.lemmas.Bool.{and_from}
+use Rattle.std.proofs.{lemmas.Bool.and_from, lemmas.Bool.and_left as first_false, lemmas.Bool.and_right as last_false, lemmas.Bool.Decides.nat_tests}
 use Rattle.std.proofs.Common.{eq-eqb, ne_eqb}
 use Rattle.vz_frame.specs.declared.message.ClientFile.{ClientFile}
 use Rattle.vz_rules.specs.Plan.{Plan}
 use Rattle.vz_rules.specs.World.{World, Machine, Client, client_at, new_clients}
-use Rattle.vz_rules.specs.declared.entry.Entry.{Entry}
-use Rattle.vz_rules.specs.Step.{world, Legal, is_attached}
-use Rattle.vz_rules.specs.Course.{is_idle, has_answered, is_calm}
-use Rattle.vz_rules.proofs.Given.{number_of}
-use Rattle.vz_rules.proofs.Numbered.{numbers_are}
+use Rattle.vz_rules.specs.{declared.entry.Entry.Entry, Step.world, Step.Legal, Step.is_attached, Course.is_idle, Course.has_answered, Course.is_calm}
+use Rattle.vz_rules.proofs.{Given.number_of, Numbered.numbers_are}
 use Rattle.vz_machine.specs.Stepping.{asked}
-use Rattle.vz_desk.specs.Books.{Booked, machine_of, IsBooked}
-use Rattle.vz_desk.specs.Calm.{restless_at}
+use Rattle.vz_desk.specs.{Books.Booked, Books.machine_of, Books.IsBooked, Calm.restless_at}
 
 calm_three : (a i d : Bool) → (a && (not i && not d)) ≡ false → (not a || i || d) ≡ true
-calm_three true true d is = refl
-calm_three true false true is = refl
-calm_three true false false is = absurd (cc)
-calm_three false i d is = refl
+calm_three a i d is = grind (arith, nat_tests)
 
 restless_three : (a i d : Bool) → (a && (not i && not d)) ≡ true → (not a || i || d) ≡ false
-restless_three true true d is = absurd (cc)
-restless_three true false true is = absurd (cc)
-restless_three true false false is = refl
-restless_three false i d is = absurd (cc)
-
-first_false : (a b : Bool) → a ≡ false → (a && b) ≡ false
-first_false a b e = ap (λ (t : Bool). t && b) e
-
-last_false : (a b : Bool) → b ≡ false → (a && b) ≡ false
-last_false true b e = e
-last_false false b e = refl
+restless_three a i d is = grind (arith, nat_tests)
 
 head_number : (x : Client) (xs : List Client) (k : ℕ) (ks : List ℕ) → number_of x ∷ map number_of xs ≡ k ∷ ks → x.number ≡ k
 head_number x xs k ks e = cc
@@ -69,8 +52,7 @@ module _ (p : Plan) (w : World) where
       (λ c l m. all c (omega (arith, l)) (omega (arith, m))))
 
   all_false : (t : Bool) (x : Client) (o : Option Client) (y : Client) (rest : Bool) → cond t (Some x) o ≡ Some y → calm_one y ≡ false → (o ≡ Some y → rest ≡ false) → (calm_one x && rest) ≡ false
-  all_false true x o y rest e is more = first_false (calm_one x) rest (ap (λ (z : Option Client). asked z calm_one) e ∙ is)
-  all_false false x o y rest e is more = last_false (calm_one x) rest (more e)
+  all_false t x o y rest e is more = grind (arith, nat_tests, first_false, last_false)
 
 module _ (p : Plan) (w : World) where
   restless_in : (test : Client → Bool) (xs : List Client) (x : Client) → find test xs ≡ Some x → calm_one p w x ≡ false → list_all (calm_one p w) xs ≡ false
@@ -78,8 +60,7 @@ module _ (p : Plan) (w : World) where
   restless_in test (y ∷ xs) x e is = all_false p w (test y) y (find test xs) x (list_all (calm_one p w) xs) e is (λ m. restless_in test xs x m is)
 
   restless_some : (test : Client → Bool) (o : Option Client) → find test w.clients ≡ o → restless_of p w o ≡ true → list_all (calm_one p w) w.clients ≡ false
-  restless_some test None e is = absurd (cc)
-  restless_some test (Some x) e is = restless_in test w.clients x e (restless_three (is_attached p w x) (is_idle p w x) (has_answered w x) is)
+  restless_some test o e is = grind (arith, nat_tests, restless_in, restless_three)
 
   -- one client for which it has to wait
   pub not_calm : (c : ℕ) → restless_at (record { plan = p; world = w }) c ≡ true → is_calm p w ≡ false

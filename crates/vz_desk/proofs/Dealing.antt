@@ -1,18 +1,13 @@
 -- The ends of a desk that begins.
 use Rattle.std.specs.Prelude.{All}
-use Rattle.std.proofs.Common.{◌≡◌, ℕ, zero, suc, ◌+◌, ◌<◌, ◌≤◌, List, [], ◌∷◌, ◌++◌, map, take, drop, length, refl, ap, sym, ◌∙◌, subst, arith, length-append, append_assoc, append-nil, Option, Some}
+use Rattle.std.proofs.Common.{◌≡◌, ℕ, zero, suc, ◌+◌, ◌<◌, ◌≤◌, List, [], ◌∷◌, ◌++◌, map, take, drop, length, refl, ap, sym, ◌∙◌, subst, arith, length-append, append_assoc, Option, Some}
 use Rattle.atomic_table.specs.Seated.{TableId}
 use Rattle.vz_loans.specs.Tokens.{Caller, unused, unused_from}
 use Rattle.vz_loans.proofs.Closing.{Each, all_of, each_of, each_rest}
-use Rattle.vz_rules.specs.Plan.{Plan}
-use Rattle.vz_rules.specs.declared.entry.Entry.{Entry}
-use Rattle.vz_rules.specs.Step.{Legal, LegalFrom}
-use Rattle.vz_rules.specs.Whole.{mine}
-use Rattle.vz_rules.specs.Accounts.{takes}
-use Rattle.vz_rules.specs.Course.{displayed}
-use Rattle.vz_desk.specs.declared.totals.Totals.{Totals}
-use Rattle.vz_desk.specs.Totals.{no_totals, no_display_totals, AreTotals, AreDisplayTotals}
+use Rattle.vz_rules.specs.{Plan.Plan, declared.entry.Entry.Entry, Step.Legal, Step.LegalFrom, Whole.mine, Accounts.takes, Course.displayed}
+use Rattle.vz_desk.specs.{declared.totals.Totals.Totals, Totals.no_totals, Totals.no_display_totals, Totals.AreTotals, Totals.AreDisplayTotals}
 use Rattle.vz_desk.specs.Owners.{Owner, owner_of, fresh, fresh_from, IsEnd, IsDisplayEnd, IsPlanned, IsUnused}
+use Rattle.std.proofs.lemmas.Bool.Decides.{nat_tests}
 
 none_legal : (p : Plan) → Legal p []
 unfolding Legal LegalFrom
@@ -55,16 +50,6 @@ pub record Dealt (all tokens : List (Caller Plan Entry)) (ends : List (Owner Tot
   pub split : all ≡ tokens ++ taken
   pub made : ends ≡ map begun taken
 
-pub dealt_none : (all : List (Caller Plan Entry)) (ends : List (Owner Totals)) → ends ≡ [] → Dealt all all ends
-dealt_none all ends none = record { taken = []; split = sym (append-nil all); made = none }
-
-pub dealt_more : (all tokens left : List (Caller Plan Entry)) (t : Caller Plan Entry) (ends more : List (Owner Totals)) → Dealt all tokens ends → tokens ≡ left ++ t ∷ [] → more ≡ begun t ∷ ends → Dealt all left more
-dealt_more all tokens left t ends more d is made = record {
-  taken = t ∷ d.taken;
-  split = d.split ∙ ap (λ l. l ++ d.taken) is ∙ append_assoc left (t ∷ []) d.taken;
-  made = made ∙ ap (λ l. begun t ∷ l) d.made;
-}
-
 rest_of : (left rest : List (Caller Plan Entry)) → 0 < length left → Each IsUnused (drop 1 (left ++ rest)) → Each IsUnused rest
 rest_of [] rest some h = absurd (omega (arith, some))
 rest_of (x ∷ left) rest some h = each_rest IsUnused left rest h
@@ -105,9 +90,7 @@ all_unused id plan clients tokens is all =
     subst (λ l. All IsUnused (drop 1 l)) (sym (is ∙ ap (unused_from id (Some plan) 0) more)) (all_of IsUnused (unused_from id (Some plan) 1 clients) (unused_each id plan 1 clients (omega arith) (omega (arith, all))))
 
 pub ends_are : (id : TableId) (plan : Plan) (clients : ℕ) (tokens : List (Caller Plan Entry)) (ends : List (Owner Totals)) → tokens ≡ unused_from id (Some plan) 0 (clients + 1) → ends ≡ map begun (drop 1 tokens) → ends ≡ fresh_from id plan 1 clients
-ends_are id plan clients tokens ends is made =
-    let more : clients + 1 ≡ suc clients = omega arith in
-    made ∙ ap (λ l. map begun (drop 1 l)) (is ∙ ap (unused_from id (Some plan) 0) more) ∙ fresh_are id plan 1 clients
+ends_are id plan clients tokens ends is made = grind (arith, nat_tests, fresh_are id plan 1 clients)
 
 -- the first token is the display's
 pub first_is : (id : TableId) (plan : Plan) (clients : ℕ) (tokens one : List (Caller Plan Entry)) → tokens ≡ unused_from id (Some plan) 0 (clients + 1) → one ≡ take 1 tokens → one ≡ unused id (Some plan) 0 ∷ []

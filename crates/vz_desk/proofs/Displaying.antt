@@ -1,46 +1,28 @@
 -- What the display's end keeps, while clients make their entries and as the display makes its own.
-use Rattle.std.proofs.Common.{◌≡◌, ℕ, zero, suc, ◌+◌, ◌≤◌, Bool, true, false, cond, eqb, not, List, [], ◌∷◌, ◌++◌, length, refl, ap, sym, ◌∙◌, subst, arith, ◌≢◌, ne_eqb, append-nil, append_assoc, length-append, ◌||◌, Some, None, inr}
+use Rattle.std.proofs.Common.{◌≡◌, ℕ, suc, ◌+◌, ◌≤◌, Bool, true, false, cond, eqb, not, List, [], ◌∷◌, ◌++◌, length, refl, ap, sym, ◌∙◌, subst, arith, append-nil, append_assoc, length-append, ◌||◌, Some, None, inr}
 use Rattle.std.specs.Prelude.{count_by, sum_by, is_some}
 use Rattle.std.proofs.lemmas.List.Sums.{sum_by-append, sum_by-cons, count_by-le-length}
-use Rattle.std.proofs.lemmas.List.Elements.{filter-append}
+use Rattle.std.proofs.{lemmas.List.Elements.filter-append, lemmas.Bool.Decides.nat_tests}
 use mathlib.Core.List.{IsPrefix, map-append}
-use Rattle.vz_loans.specs.Rule.{places, places_from}
-use Rattle.vz_loans.specs.Tokens.{Caller, mine as places_of, IsSameCaller, MayLeave}
-use Rattle.vz_rules.specs.Plan.{Plan}
-use Rattle.vz_rules.specs.World.{World}
-use Rattle.vz_rules.specs.declared.entry.Event.{Event}
+use Rattle.vz_loans.specs.{Rule.places, Rule.places_from, Tokens.Caller, Tokens.mine as places_of, Tokens.IsSameCaller, Tokens.MayLeave}
+use Rattle.vz_rules.specs.{Plan.Plan, World.World, declared.entry.Event.Event, declared.entry.Reply.Reply, Messages.says}
 use Rattle.vz_rules.specs.declared.entry.Event.TheVariants as event
-use Rattle.vz_rules.specs.declared.entry.Reply.{Reply}
 use Rattle.vz_rules.specs.declared.entry.Reply.TheVariants as reply
-use Rattle.vz_rules.specs.declared.entry.Effects.{Effects}
-use Rattle.vz_rules.specs.declared.entry.Entry.{Entry}
+use Rattle.vz_rules.specs.{declared.entry.Effects.Effects, declared.entry.Entry.Entry, Course.is_drawn, Course.is_of_client, Course.displayed}
 use Rattle.vz_rules.specs.Step.{Legal, world, entry_in, step_in, answer_to, outcome_of, done_answer, NamesClient}
-use Rattle.vz_rules.specs.Messages.{says}
-use Rattle.vz_rules.specs.Course.{is_begin, is_draw, is_drawn, is_of_client, displayed}
 use Rattle.vz_rules.proofs.Runs.{legal-more}
 use Rattle.vz_desk.specs.Books.{Booked, booked_on, next_entry, caller_in, numbered}
-use Rattle.vz_desk.specs.Flights.{flies_by, flies_behind}
-use Rattle.vz_desk.specs.Totals.{DisplayTotals, AreDisplayTotals, draws_frame, is_done, noted_plainly}
+use Rattle.vz_desk.specs.{Flights.flies_by, Flights.flies_behind, Totals.DisplayTotals, Totals.AreDisplayTotals, Totals.noted_plainly}
 use Rattle.vz_desk.specs.declared.answer.Note.{Note}
-use Rattle.vz_desk.specs.Owners.{Owner, owner_of, IsDisplayEnd, IsSameOwner}
-use Rattle.vz_desk.specs.Displays.{with_entry, Displays}
-use Rattle.vz_desk.proofs.Flying.{flights_are_told}
-use Rattle.vz_desk.proofs.Owning.{one_less, longer_history}
+use Rattle.vz_desk.specs.{Owners.Owner, Owners.owner_of, Owners.IsDisplayEnd, Owners.IsSameOwner, Displays.with_entry, Displays.Displays}
+use Rattle.vz_desk.proofs.{Flying.flights_are_told, Owning.one_less, Owning.longer_history}
 
 -- Entries of others
-
-none_client : (c k : ℕ) (ps : List ℕ) → c ≢ 0 → cond (eqb c 0) (k ∷ ps) ps ≡ [] → ps ≡ []
-none_client c k ps other is = ap (λ (t : Bool). cond t (k ∷ ps) ps) (sym (ne_eqb c 0 other)) ∙ is
 
 none_step : (v : Event) (r : Reply) (f : Effects) (k : ℕ) (ps : List ℕ) (more : List Entry) → cond (eqb (caller_in v) 0) (k ∷ ps) ps ≡ [] → (ps ≡ [] → displayed more ≡ [])
     → displayed (record { event = v; reply = r; effects = f } ∷ more) ≡ []
 unfolding displayed
-none_step (event.Client zero) r f k ps more is rest = absurd (cc)
-none_step (event.Client (suc c)) r f k ps more is rest = rest (none_client (suc c) k ps (λ e. omega (arith, e)) is)
-none_step event.Begin r f k ps more is rest = absurd (cc)
-none_step event.Draw r f k ps more is rest = absurd (cc)
-none_step event.Done r f k ps more is rest = absurd (cc)
-none_step event.Over r f k ps more is rest = absurd (cc)
+none_step v r f k ps more is rest = grind (arith, nat_tests)
 
 -- where the display has no place, it has no entry
 none_displayed : (k : ℕ) (more : List Entry) → places_from k 0 (numbered more) ≡ [] → displayed more ≡ []
@@ -59,11 +41,7 @@ displayed_more h more = filter-append (λ e. not (is_of_client e.event)) h more
 
 displayed_one : (v : Event) (r : Reply) (f : Effects) (h : List Entry) → length (displayed h) ≤ length h → length (displayed (record { event = v; reply = r; effects = f } ∷ h)) ≤ length h + 1
 unfolding displayed
-displayed_one (event.Client c) r f h few = omega arith
-displayed_one event.Begin r f h few = omega arith
-displayed_one event.Draw r f h few = omega arith
-displayed_one event.Done r f h few = omega arith
-displayed_one event.Over r f h few = omega arith
+displayed_one v r f h few = grind (arith, nat_tests)
 
 displayed_few : (h : List Entry) → length (displayed h) ≤ length h
 unfolding displayed
@@ -74,21 +52,12 @@ displayed_stays : (h more : List Entry) → displayed more ≡ [] → displayed 
 displayed_stays h more none = sym (displayed_more h more ∙ ap (λ (l : List Entry). displayed h ++ l) none ∙ append-nil (displayed h))
 
 pub counted_same : (h g : List Entry) (t : DisplayTotals) → displayed h ≡ displayed g → AreDisplayTotals h t → AreDisplayTotals g t
-counted_same h g t same are = record {
-  begins = are.begins ∙ ap (count_by is_begin) same;
-  draws = are.draws ∙ ap (count_by is_draw) same;
-  drawn = are.drawn ∙ ap (count_by draws_frame) same;
-  dones = are.dones ∙ ap (count_by is_done) same;
-  in_flight = are.in_flight ∙ ap (flies_behind false) same;
-}
+counted_same h g t same are = grind (arith, nat_tests)
 
 -- the display's entries in a longer history, where it has no place more
 module _ (old h : List Entry) (s : List (ℕ × Entry)) where
   pub shown_same : s ≡ numbered old → IsPrefix s (numbered h) → places 0 (numbered h) ≡ places 0 s → displayed old ≡ displayed h
-  shown_same seen later stay =
-      let longer = longer_history old h (subst (λ (x : List (ℕ × Entry)). IsPrefix x (numbered h)) seen later) in
-      let same : places 0 (numbered (old ++ longer.0)) ≡ places 0 (numbered old) = ap (λ (g : List Entry). places 0 (numbered g)) (sym longer.1) ∙ stay ∙ ap (places 0) seen in
-      displayed_stays old longer.0 (none_more 1 old longer.0 same) ∙ ap displayed (sym longer.1)
+  shown_same seen later stay = grind (arith, nat_tests, longer_history old h, displayed_stays old, none_more 1 old)
 
 -- a token before a turn and in it, and the book that was found
 pub record Entered {S : Type 0} (t0 t1 : Caller Plan Entry) (b : Booked S) : Type 0 where
@@ -107,8 +76,7 @@ pub record Left (t1 t2 : Caller Plan Entry) (h : List Entry) : Type 0 where
 
 module _ {S : Type 0} (t0 t1 : Caller Plan Entry) (b : Booked S) (totals : DisplayTotals) (old : IsDisplayEnd t0 totals) (e : Entered t0 t1 b) where
   pub same_before : displayed old.history ≡ displayed b.history
-  same_before = shown_same old.history b.history t0.seen old.sees.seen (subst (IsPrefix t0.seen) e.found e.later)
-      (ap (places 0) (sym e.found) ∙ ap (λ (n : ℕ). places n t1.seen) (sym (e.first.1 ∙ old.display)) ∙ e.stays ∙ ap (λ (n : ℕ). places n t0.seen) old.display)
+  same_before = grind (arith, nat_tests, shown_same old.history b.history t0.seen old.sees.seen (subst (IsPrefix t0.seen) e.found e.later))
 
   -- a frame is in flight where the display's end tells so
   pub flies_there : is_some (world b.plan b.history).in_flight ≡ totals.in_flight
@@ -116,20 +84,12 @@ module _ {S : Type 0} (t0 t1 : Caller Plan Entry) (b : Booked S) (totals : Displ
 
   -- a turn without an entry
   pub quiet_display : (t2 : Caller Plan Entry) (h : List Entry) → Left t1 t2 h → h ≡ b.history → IsDisplayEnd t2 totals
-  quiet_display t2 h l same = record {
-    rests = l.rests;
-    display = l.second.1 ∙ e.first.1 ∙ old.display;
-    plan = b.plan;
-    history = b.history;
-    sees = record { planned = l.second.2 ∙ e.planned; seen = l.seen ∙ ap numbered same; legal = e.legal };
-    counted = counted_same old.history b.history totals same_before old.counted;
-  }
+  quiet_display t2 h l same = grind (arith, nat_tests, counted_same, same_before)
 
 -- An entry of the display's own
 
 one_more : (t : Bool) (n m : ℕ) → m ≡ cond t 1 0 + sum_by (λ (x : Entry). 0) [] → n + m ≡ cond t (n + 1) n
-one_more true n m is = omega arith
-one_more false n m is = omega arith
+one_more t n m is = grind (arith, nat_tests)
 
 count_more : (f : Entry → Bool) (h : List Entry) (e : Entry) → count_by f (h ++ e ∷ []) ≡ cond (f e) (count_by f h + 1) (count_by f h)
 count_more f h e = sum_by-append (λ x. cond (f x) 1 0) h (e ∷ []) ∙ one_more (f e) (count_by f h) (sum_by (λ x. cond (f x) 1 0) (e ∷ [])) (sum_by-cons (λ x. cond (f x) 1 0) e [])
@@ -140,37 +100,13 @@ flies_more b (x ∷ h) e = flies_more (flies_by b x.event x.reply) h e
 
 own_displayed : (v : Event) (r : Reply) (f : Effects) → is_of_client v ≡ false → displayed (record { event = v; reply = r; effects = f } ∷ []) ≡ record { event = v; reply = r; effects = f } ∷ []
 unfolding displayed
-own_displayed (event.Client c) r f own = absurd (cc)
-own_displayed event.Begin r f own = refl
-own_displayed event.Draw r f own = refl
-own_displayed event.Done r f own = refl
-own_displayed event.Over r f own = refl
-
-own_caller : (v : Event) → is_of_client v ≡ false → caller_in v ≡ 0
-own_caller (event.Client c) own = absurd (cc)
-own_caller event.Begin own = refl
-own_caller event.Draw own = refl
-own_caller event.Done own = refl
-own_caller event.Over own = refl
+own_displayed v r f own = grind (arith, nat_tests)
 
 pub own_names : (p : Plan) (v : Event) → is_of_client v ≡ false → NamesClient p v
-own_names p (event.Client c) own = absurd (cc)
-own_names p event.Begin own = tt
-own_names p event.Draw own = tt
-own_names p event.Done own = tt
-own_names p event.Over own = tt
+own_names p v own = grind (arith, nat_tests)
 
 counted_more : (before : List Entry) (e : Entry) (t : DisplayTotals) → is_of_client e.event ≡ false → AreDisplayTotals before t → AreDisplayTotals (before ++ e ∷ []) (with_entry t e)
-counted_more before e t own are =
-    let more : displayed (before ++ e ∷ []) ≡ displayed before ++ e ∷ [] = displayed_more before (e ∷ []) ∙ ap (λ (l : List Entry). displayed before ++ l) (own_displayed e.event e.reply e.effects own) in
-    let by = λ (f : Entry → Bool) (n : ℕ) (is : n ≡ count_by f (displayed before)). ap (λ (k : ℕ). cond (f e) (k + 1) k) is ∙ sym (ap (count_by f) more ∙ count_more f (displayed before) e) in
-    record {
-      begins = by is_begin t.begins are.begins;
-      draws = by is_draw t.draws are.draws;
-      drawn = by draws_frame t.drawn are.drawn;
-      dones = by is_done t.dones are.dones;
-      in_flight = ap (λ (b : Bool). flies_by b e.event e.reply) are.in_flight ∙ sym (ap (flies_behind false) more ∙ flies_more false (displayed before) e);
-    }
+counted_more before e t own are = grind (arith, nat_tests, displayed_more before (e ∷ []), own_displayed e.event e.reply e.effects own, count_more, flies_more false (displayed before) e)
 
 pub event_is : (p : Plan) (w : World) (v : Event) → (entry_in p w v).event ≡ v
 unfolding entry_in
@@ -205,8 +141,7 @@ module _ {S : Type 0} (t0 t1 : Caller Plan Entry) (b b' : Booked S) (v : Event) 
   own_made = ap is_of_client (event_is b.plan (world b.plan b.history) v) ∙ own
 
   pub adds : numbered b'.history ≡ t1.seen ++ (t1.number, made) ∷ []
-  adds = adds_entry t1.number t1.seen b.history b'.history made e.found (booked_history b b' v is)
-      (ap caller_in (event_is b.plan (world b.plan b.history) v) ∙ own_caller v own ∙ sym (e.first.1 ∙ old.display))
+  adds = grind (arith, nat_tests, adds_entry, booked_history, event_is)
 
   -- what it puts back
   pub leaves_plan : t1.plan ≡ Some b'.plan

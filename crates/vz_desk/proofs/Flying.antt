@@ -1,27 +1,17 @@
 -- Only the display's own entries change whether a frame is in flight.
-use Rattle.std.proofs.Common.{◌≡◌, ℕ, zero, suc, Bool, true, false, ◌||◌, Option, Some, None, List, [], ◌∷◌, refl, ap, sym, ◌∙◌, cond}
-use Rattle.std.specs.Prelude.{is_some, ◌&&◌}
+use Rattle.std.proofs.Common.{◌≡◌, ℕ, zero, suc, Bool, true, false, ◌||◌, Option, Some, None, List, [], ◌∷◌, refl, ap, sym, ◌∙◌, cond, arith}
+use Rattle.std.specs.Prelude.{is_some}
 use Rattle.vz_ids.specs.declared.Sub.{Sub}
-use Rattle.vz_geom.specs.Rectangle.{is_empty_rect}
-use Rattle.vz_rules.specs.Plan.{Plan}
-use Rattle.vz_rules.specs.declared.entry.Event.{Event}
+use Rattle.vz_rules.specs.{Plan.Plan, declared.entry.Reply.Reply, Scene.scene_of}
+use Rattle.vz_rules.specs.{declared.entry.Event.Event, declared.entry.Effects.Effects, declared.entry.Entry.Entry, Returns.give_back, Returns.feed}
 use Rattle.vz_rules.specs.declared.entry.Event.TheVariants as event
-use Rattle.vz_rules.specs.declared.entry.Reply.{Reply}
 use Rattle.vz_rules.specs.declared.entry.Reply.TheVariants as reply
-use Rattle.vz_rules.specs.declared.entry.Effects.{Effects}
-use Rattle.vz_rules.specs.declared.entry.Entry.{Entry}
-use Rattle.vz_rules.specs.World.{World, Scene, opening}
-use Rattle.vz_rules.specs.Scene.{scene_of}
-use Rattle.vz_rules.specs.Settle.{round, rounds, settle}
-use Rattle.vz_rules.specs.Reach.{naming, clearing, collect}
-use Rattle.vz_rules.specs.Returns.{give_back, feed}
-use Rattle.vz_rules.specs.Walk.{walk_of, too_much}
-use Rattle.vz_rules.specs.Damage.{drawn_damage}
-use Rattle.vz_rules.specs.Messages.{Answer, says, client_answer, accepted}
-use Rattle.vz_rules.specs.Step.{outcome_of, step_in, entry_in, answer_to, begin_answer, scene_answer, draw_answer, done_answer, accepted_frames, world, world_from, Legal, LegalFrom}
-use Rattle.vz_rules.specs.Course.{is_drawn, displayed}
+use Rattle.vz_rules.specs.{World.World, World.Scene, World.opening, Settle.round, Settle.rounds, Settle.settle, Course.is_drawn, Course.displayed}
+use Rattle.vz_rules.specs.{Reach.naming, Reach.clearing, Reach.collect, Messages.Answer, Messages.says, Messages.client_answer, Messages.accepted}
+use Rattle.vz_rules.specs.Step.{outcome_of, step_in, entry_in, answer_to, begin_answer, scene_answer, draw_answer, done_answer, world, world_from, Legal, LegalFrom}
 use Rattle.vz_rules.proofs.Cases.{client_cases}
 use Rattle.vz_desk.specs.Flights.{flies_by, flies_behind}
+use Rattle.std.proofs.lemmas.Bool.Decides.{nat_tests}
 
 rounds_fly : (n : ℕ) (w : World) → (rounds n w).in_flight ≡ w.in_flight
 unfolding rounds round
@@ -35,8 +25,7 @@ outcome_flies presented a = rounds_fly _ a.world
 
 done_flies : (o : Option (List Sub)) (w : World) → w.in_flight ≡ o → (done_answer w).world.in_flight ≡ None
 unfolding done_answer
-done_flies (Some subs) w is = ap (λ (x : Option (List Sub)). (cond (is_some x) (says reply.Shown (record w { in_flight = None })) (says reply.Nothing w)).world.in_flight) is
-done_flies None w is = ap (λ (x : Option (List Sub)). (cond (is_some x) (says reply.Shown (record w { in_flight = None })) (says reply.Nothing w)).world.in_flight) is ∙ is
+done_flies o w is = grind (arith, nat_tests)
 
 -- after Done no frame is in flight
 pub done_lands : (p : Plan) (w : World) → (step_in p w event.Done).world.in_flight ≡ None
@@ -65,15 +54,11 @@ abbrev Flies : World → Answer → Type 0
 Flies w a = is_some a.world.in_flight ≡ (is_drawn a.reply || is_some w.in_flight)
 
 by_test : (w : World) (t : Bool) (a b : Answer) → Flies w a → Flies w b → Flies w (cond t a b)
-by_test w true a b h k = h
-by_test w false a b h k = k
+by_test w t a b h k = grind (arith, nat_tests)
 
 scene_flies : (p : Plan) (w : World) (scene : Scene) → Flies w (scene_answer p w scene)
 unfolding scene_answer
-scene_flies p w scene =
-    let walked = walk_of p.size scene in
-    let damage = drawn_damage p.size w.last (accepted_frames w) scene.root walked in
-    by_test w (too_much walked) _ _ refl (by_test w (is_some w.last && is_empty_rect damage) _ _ refl refl)
+scene_flies p w scene = grind (arith, nat_tests)
 
 drawn_flies : (p : Plan) (w : World) (o : Option Scene) → Flies w (elim o [ Some scene ↦ scene_answer p w scene | None ↦ says reply.NoRoot w ])
 drawn_flies p w None = refl
@@ -92,24 +77,15 @@ step_flies p w event.Draw = ap is_some (outcome_flies [] (draw_answer p w)) ∙ 
 step_flies p w event.Done = ap is_some (done_lands p w)
 step_flies p w event.Over = ap is_some (outcome_flies [] (says reply.Ended (record w { over = true })))
 
-entry_replies : (p : Plan) (w : World) (e : Entry) → e ≡ entry_in p w e.event → (step_in p w e.event).reply ≡ e.reply
-unfolding entry_in
-entry_replies p w e is = ap (λ (x : Entry). x.reply) (sym is)
-
 flies_from : (p : Plan) (w : World) (h : List Entry) → LegalFrom p w h → is_some (world_from p w h).in_flight ≡ flies_behind (is_some w.in_flight) h
-unfolding LegalFrom world_from
+unfolding LegalFrom world_from entry_in
 flies_from p w [] legal = refl
-flies_from p w (e ∷ h) legal = flies_from p (step_in p w e.event).world h legal.2
-    ∙ ap (λ (b : Bool). flies_behind b h) (step_flies p w e.event ∙ ap (flies_by (is_some w.in_flight) e.event) (entry_replies p w e legal.1))
+flies_from p w (e ∷ h) legal = grind (arith, nat_tests, flies_from p (step_in p w e.event).world h legal.2, step_flies p w e.event)
 
 one_displayed : (v : Event) (r : Reply) (f : Effects) (h : List Entry) → ((flies : Bool) → flies_behind flies (displayed h) ≡ flies_behind flies h) → (flies : Bool)
     → flies_behind flies (displayed (record { event = v; reply = r; effects = f } ∷ h)) ≡ flies_behind (flies_by flies v r) h
 unfolding displayed
-one_displayed (event.Client c) r f h rest flies = rest flies
-one_displayed event.Begin r f h rest flies = rest flies
-one_displayed event.Draw r f h rest flies = rest (is_drawn r || flies)
-one_displayed event.Done r f h rest flies = rest false
-one_displayed event.Over r f h rest flies = rest flies
+one_displayed v r f h rest flies = grind (arith, nat_tests)
 
 displayed_flies : (h : List Entry) (flies : Bool) → flies_behind flies (displayed h) ≡ flies_behind flies h
 unfolding displayed

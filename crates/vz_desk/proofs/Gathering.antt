@@ -3,18 +3,14 @@ use Rattle.std.proofs.Common.{◌≡◌, ℕ, ◌+◌, List, [], ◌∷◌, ◌+
 use mathlib.Core.List.{IsPrefix}
 use Rattle.std.specs.Prelude.{All}
 use Rattle.atomic_table.specs.Seated.{TableId}
-use Rattle.vz_loans.specs.Rule.{places}
-use Rattle.vz_loans.specs.Tokens.{Caller, IsAtRest, IsClosedBy}
+use Rattle.vz_loans.specs.{Rule.places, Tokens.Caller, Tokens.IsAtRest, Tokens.IsClosedBy}
 use Rattle.vz_loans.proofs.Closing.{Each, each_of, all_of, each_init, each_rest}
-use Rattle.vz_rules.specs.Plan.{Plan}
-use Rattle.vz_rules.specs.declared.entry.Entry.{Entry}
-use Rattle.vz_desk.specs.Books.{numbered}
-use Rattle.vz_desk.specs.Totals.{AreTotals, DisplayTotals}
-use Rattle.vz_desk.specs.declared.totals.Totals.{Totals}
-use Rattle.vz_desk.specs.Owners.{Owner, owner_of, IsEnd, IsDisplayEnd}
-use Rattle.vz_desk.specs.Gathering.{IsGatheredClient, IsGatheredDisplay}
+use Rattle.vz_rules.specs.{Plan.Plan, declared.entry.Entry.Entry}
+use Rattle.vz_desk.specs.{Books.numbered, Totals.AreTotals, Totals.DisplayTotals, declared.totals.Totals.Totals}
+use Rattle.vz_desk.specs.{Owners.Owner, Owners.owner_of, Owners.IsEnd, Owners.IsDisplayEnd, Gathering.IsGatheredClient, Gathering.IsGatheredDisplay}
 use Rattle.vz_desk.proofs.Owning.{none_more, longer_history, same_plan, totals_stay}
 use Rattle.vz_desk.proofs.Displaying.{shown_same, counted_same}
+use Rattle.std.proofs.lemmas.Bool.Decides.{nat_tests}
 
 -- what was a client's, behind the whole history
 gathered_client : (t : Caller Plan Entry) (totals : Totals) (p : Plan) (h : List Entry) → IsEnd t totals → IsClosedBy p (numbered h) t → IsGatheredClient p h (owner_of t totals)
@@ -31,11 +27,7 @@ gathered_client t totals p h old closed =
 
 -- what was the display's
 gathered_display : (t : Caller Plan Entry) (totals : DisplayTotals) (p : Plan) (h : List Entry) → IsDisplayEnd t totals → IsClosedBy p (numbered h) t → IsGatheredDisplay p h (owner_of t totals)
-gathered_display t totals p h old closed = record {
-  gathered = record { planned = closed.same_plan; begun = closed.begun; mine = closed.counted };
-  counted = counted_same old.history h totals
-      (shown_same old.history h t.seen old.sees.seen closed.begun (subst (λ (n : ℕ). places n (numbered h) ≡ places n t.seen) old.display closed.counted)) old.counted;
-}
+gathered_display t totals p h old closed = grind (arith, nat_tests, counted_same old.history h totals, shown_same old.history h t.seen old.sees.seen closed.begun)
 
 module _ {A : Type 0} (P : A → Type 0) where
   each_append : (xs ys : List A) → Each P xs → Each P ys → Each P (xs ++ ys)
@@ -63,8 +55,7 @@ starts_one all t totals end = record {
 
 pub starts_collecting : (all : List (Owner Totals)) (t : Caller Plan Entry) (totals : DisplayTotals) (d : Owner DisplayTotals) (none room : List (Caller Plan Entry)) → IsDisplayEnd t totals → owner_of t totals ≡ d → none ≡ [] → room ≡ none ++ t ∷ []
     → Collected all all d room
-starts_collecting all t totals d none room end view_is empty is =
-    subst (λ (x : Owner DisplayTotals × List (Caller Plan Entry)). Collected all all x.0 x.1) (λ i. (view_is i, sym (is ∙ ap (λ l. l ++ t ∷ []) empty) i)) (starts_one all t totals end)
+starts_collecting all t totals d none room end view_is empty is = grind (arith, nat_tests, starts_one all t totals end)
 
 pub goes_collecting : (all old left : List (Owner Totals)) (x : Owner Totals) (d : Owner DisplayTotals) (t : Caller Plan Entry) (totals : Totals) (room more : List (Caller Plan Entry)) → Collected all old d room → old ≡ left ++ x ∷ [] → IsEnd t totals → owner_of t totals ≡ x
     → more ≡ room ++ t ∷ [] → Collected all left d more
@@ -85,9 +76,6 @@ module _ (all left : List (Owner Totals)) (d : Owner DisplayTotals) (room : List
 
   rest_is : c.rest ≡ all
   rest_is = all_rest left none c.split
-
-  pub collected_count : length room ≡ length all + 1
-  collected_count = c.count ∙ ap (λ (l : List (Owner Totals)). length l + 1) rest_is
 
   pub collected_ours : (id : TableId) → d.desk ≡ id → All (λ (o : Owner Totals). o.desk ≡ id) all → All (IsAtRest id) room
   collected_ours id mine others = all_of (IsAtRest id) room (c.ours id mine (subst (Each (λ (o : Owner Totals). o.desk ≡ id)) (sym rest_is) (each_of _ all others)))

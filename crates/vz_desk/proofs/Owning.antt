@@ -1,35 +1,18 @@
 -- What an owner of an end keeps, while other callers make their entries.
-use Rattle.std.proofs.Common.{◌≡◌, ℕ, ◌+◌, ◌<◌, ◌≤◌, Bool, true, false, cond, eqb, List, [], ◌∷◌, ◌++◌, map, filter, length, refl, ap, sym, ◌∙◌, subst, arith, ne_eqb, append-nil, Option, Some}
-use Rattle.std.specs.Prelude.{count_by}
-use Rattle.std.specs.List.{sum_by}
-use Rattle.std.proofs.lemmas.List.Elements.{filter-append}
+use Rattle.std.proofs.Common.{◌≡◌, ℕ, ◌+◌, ◌<◌, ◌≤◌, Bool, false, cond, eqb, List, [], ◌∷◌, ◌++◌, map, filter, length, refl, ap, sym, ◌∙◌, subst, arith, append-nil, Option, Some}
+use Rattle.std.proofs.{lemmas.List.Elements.filter-append, lemmas.Bool.Decides.nat_tests}
 use mathlib.Core.List.{IsPrefix, map-append}
-use Rattle.vz_loans.specs.Rule.{places, places_from}
-use Rattle.vz_loans.specs.Tokens.{Caller, mine as places_of, IsSameCaller}
-use Rattle.vz_rules.specs.Plan.{Plan}
-use Rattle.vz_rules.specs.declared.entry.Event.{Event}
-use Rattle.vz_rules.specs.declared.entry.Event.TheVariants as event
-use Rattle.vz_rules.specs.declared.entry.Reply.{Reply}
-use Rattle.vz_rules.specs.declared.entry.Effects.{Effects}
-use Rattle.vz_rules.specs.declared.entry.Entry.{Entry}
-use Rattle.vz_rules.specs.Step.{Legal}
-use Rattle.vz_rules.specs.Whole.{mine, is_of, is_in_time}
-use Rattle.vz_rules.specs.Accounts.{accepts, takes}
-use Rattle.vz_desk.specs.Books.{caller_in, numbered}
-use Rattle.vz_desk.specs.declared.totals.Totals.{Totals}
-use Rattle.vz_desk.specs.Totals.{AreTotals, lent_by, lent_from, refuses, handed_back, upto_most}
+use Rattle.vz_loans.specs.{Rule.places, Rule.places_from, Tokens.Caller, Tokens.mine as places_of, Tokens.IsSameCaller}
+use Rattle.vz_rules.specs.{Plan.Plan, Step.Legal, Whole.mine, Whole.is_of, Accounts.takes}
+use Rattle.vz_rules.specs.{declared.entry.Event.Event, declared.entry.Reply.Reply, declared.entry.Effects.Effects, declared.entry.Entry.Entry}
+use Rattle.vz_desk.specs.{Books.caller_in, Books.numbered, declared.totals.Totals.Totals, Totals.AreTotals, Totals.lent_by, Totals.lent_from}
 use Rattle.vz_desk.specs.Owners.{IsEnd}
 
 same_test : (v : Event) (r : Reply) (f : Effects) (c : ℕ) → 0 < c → eqb (caller_in v) c ≡ is_of c (record { event = v; reply = r; effects = f })
-same_test (event.Client d) r f c some_client = refl
-same_test event.Begin r f c some_client = ne_eqb 0 c (λ e. omega (arith, e, some_client))
-same_test event.Draw r f c some_client = ne_eqb 0 c (λ e. omega (arith, e, some_client))
-same_test event.Done r f c some_client = ne_eqb 0 c (λ e. omega (arith, e, some_client))
-same_test event.Over r f c some_client = ne_eqb 0 c (λ e. omega (arith, e, some_client))
+same_test v r f c some_client = grind (arith, nat_tests)
 
 none_step : (b : Bool) (k : ℕ) (ps : List ℕ) (e : Entry) (es : List Entry) → cond b (k ∷ ps) ps ≡ [] → (ps ≡ [] → es ≡ []) → cond b (e ∷ es) es ≡ []
-none_step true k ps e es is rest = absurd (cc)
-none_step false k ps e es is rest = rest is
+none_step b k ps e es is rest = grind (arith, nat_tests)
 
 -- where a caller has no place, it has no entry
 none_of : (k c : ℕ) (more : List Entry) → 0 < c → places_from k c (numbered more) ≡ [] → filter (is_of c) more ≡ []
@@ -38,8 +21,7 @@ none_of k c (e ∷ more) some_client is = subst (λ (b : Bool). cond b (e ∷ fi
     (none_step (eqb (caller_in e.event) c) k (places_from (k + 1) c (numbered more)) e (filter (is_of c) more) is (none_of (k + 1) c more some_client))
 
 pub one_less : (b : Bool) (k : ℕ) (ps qs : List ℕ) → cond b (k ∷ ps) ps ≡ cond b (k ∷ qs) qs → ps ≡ qs
-one_less true k ps qs is = cc
-one_less false k ps qs is = is
+one_less b k ps qs is = grind (arith, nat_tests)
 
 -- where a caller has no place more, it has no entry more
 pub none_more : (k c : ℕ) (h more : List Entry) → 0 < c → places_from k c (numbered (h ++ more)) ≡ places_from k c (numbered h) → filter (is_of c) more ≡ []
@@ -51,8 +33,7 @@ unfolding mine
 mine_more c h more is = filter-append (is_of c) h more ∙ ap (λ (l : List Entry). filter (is_of c) h ++ l) is ∙ append-nil (filter (is_of c) h)
 
 lent_step : (b : Bool) (n m : ℕ) (e : Entry) (es : List Entry) → cond b (e ∷ es) es ≡ [] → (es ≡ [] → m ≡ 0) → cond b n 0 + m ≡ 0
-lent_step true n m e es is rest = absurd (cc)
-lent_step false n m e es is rest = let none = rest is in omega arith
+lent_step b n m e es is rest = grind (arith, nat_tests)
 
 lent_none : (p : Plan) (g : List Entry) (c : ℕ) (more : List Entry) → filter (is_of c) more ≡ [] → lent_from p g c more ≡ 0
 lent_none p g c [] is = refl
@@ -65,14 +46,7 @@ lent_more p g c (e ∷ h) more is = ap (λ (n : ℕ). cond (is_of c e) (lent_by 
 -- the totals of a client stay, where others make entries
 pub totals_stay : (p : Plan) (c : ℕ) (t : Totals) (h more : List Entry) → filter (is_of c) more ≡ [] → AreTotals p h c t → AreTotals p (h ++ more) c t
 unfolding takes
-totals_stay p c t h more is are = let same = sym (mine_more c h more is) in record {
-  calls = are.calls ∙ ap length same;
-  taken = are.taken ∙ ap (λ (l : List Entry). length (filter (λ e. is_in_time e.reply) l)) same;
-  accepted = are.accepted ∙ ap (count_by accepts) same;
-  refused = are.refused ∙ ap (count_by refuses) same;
-  lent = are.lent ∙ sym (ap upto_most (lent_more p [] c h more is));
-  back = are.back ∙ ap (λ (l : List Entry). upto_most (sum_by handed_back l)) same;
-}
+totals_stay p c t h more is are = grind (arith, nat_tests, mine_more c h more is, lent_more p [] c h more is)
 
 pub entries_of_numbered : (h : List Entry) → map (λ (x : ℕ × Entry). x.1) (numbered h) ≡ h
 entries_of_numbered [] = refl

@@ -1,68 +1,22 @@
 -- What a drawing of the display leads to.
-use Rattle.std.proofs.Common.{◌≡◌, ◌≢◌, ◌+◌, Bool, true, false, ◌&&◌, Option, Some, None, refl, ap, sym, ◌∙◌, subst, cond}
-use Rattle.std.specs.Prelude.{is_some}
-use Rattle.std.specs.Option.{option_map}
-use Rattle.vz_geom.specs.Rectangle.{is_empty_rect}
-use Rattle.vz_rules.specs.Plan.{Plan}
-use Rattle.vz_rules.specs.World.{World, Scene, Machine}
-use Rattle.vz_rules.specs.Scene.{scene_of}
-use Rattle.vz_rules.specs.Walk.{walk_of, too_much}
-use Rattle.vz_rules.specs.Damage.{drawn_damage}
-use Rattle.vz_rules.specs.Messages.{Answer, says}
+use Rattle.std.proofs.Common.{◌≡◌, ◌≢◌, ◌+◌, Bool, true, false, Option, Some, None, refl, ap, sym, ◌∙◌, subst, cond, arith}
+use Rattle.std.specs.{Prelude.is_some, Option.option_map}
+use Rattle.vz_rules.specs.{Plan.Plan, Scene.scene_of}
+use Rattle.vz_rules.specs.{World.World, World.Scene, World.Machine, Messages.Answer, Messages.says, declared.entry.Reply.Reply, Course.is_drawn}
 use Rattle.vz_rules.specs.declared.entry.Event.TheVariants as event
-use Rattle.vz_rules.specs.declared.entry.Reply.{Reply}
 use Rattle.vz_rules.specs.declared.entry.Reply.TheVariants as reply
-use Rattle.vz_rules.specs.Step.{step_in, entry_in, answer_to, outcome_of, scene_answer, draw_answer, accepted_frames, world}
-use Rattle.vz_rules.specs.Course.{is_drawn}
-use Rattle.vz_machine.specs.Pictured.{Pictured}
-use Rattle.vz_machine.specs.Stepping.{ShowsDrawn}
-use Rattle.vz_desk.specs.Books.{Booked, machine_of, next_entry}
-use Rattle.vz_desk.specs.Totals.{DisplayTotals}
-use Rattle.vz_desk.specs.Displays.{with_entry}
+use Rattle.vz_rules.specs.Step.{step_in, entry_in, answer_to, outcome_of, scene_answer, draw_answer, world}
+use Rattle.vz_machine.specs.{Pictured.Pictured, Stepping.ShowsDrawn}
+use Rattle.vz_desk.specs.{Books.Booked, Books.machine_of, Books.next_entry, Totals.DisplayTotals, Displays.with_entry}
+use Rattle.std.proofs.lemmas.Bool.Decides.{nat_tests}
 
 -- where there is a picture, something was drawn
 pub shown_drew : (m : Machine) (r : Reply) (p : Pictured) → ShowsDrawn m r (Some p) → is_drawn r ≡ true
-shown_drew m (reply.Drawn damage) p h = refl
-shown_drew m reply.Stored p h = absurd h
-shown_drew m (reply.Accepted a b) p h = absurd h
-shown_drew m reply.Noted p h = absurd h
-shown_drew m (reply.Reclaimed rs) p h = absurd h
-shown_drew m reply.Rooted p h = absurd h
-shown_drew m reply.Joined p h = absurd h
-shown_drew m (reply.Began n) p h = absurd h
-shown_drew m reply.Over p h = absurd h
-shown_drew m reply.Left p h = absurd h
-shown_drew m (reply.Refused why) p h = absurd h
-shown_drew m (reply.Ticked n) p h = absurd h
-shown_drew m reply.Unchanged p h = absurd h
-shown_drew m reply.NoRoot p h = absurd h
-shown_drew m reply.TooMuch p h = absurd h
-shown_drew m reply.Busy p h = absurd h
-shown_drew m reply.Shown p h = absurd h
-shown_drew m reply.Nothing p h = absurd h
-shown_drew m reply.Ended p h = absurd h
+shown_drew m r p h = grind (arith, nat_tests)
 
 -- where there is none, nothing was drawn
 pub none_drew : (m : Machine) (r : Reply) → ShowsDrawn m r None → is_drawn r ≡ false
-none_drew m (reply.Drawn damage) h = absurd h
-none_drew m reply.Stored h = refl
-none_drew m (reply.Accepted a b) h = refl
-none_drew m reply.Noted h = refl
-none_drew m (reply.Reclaimed rs) h = refl
-none_drew m reply.Rooted h = refl
-none_drew m reply.Joined h = refl
-none_drew m (reply.Began n) h = refl
-none_drew m reply.Over h = refl
-none_drew m reply.Left h = refl
-none_drew m (reply.Refused why) h = refl
-none_drew m (reply.Ticked n) h = refl
-none_drew m reply.Unchanged h = refl
-none_drew m reply.NoRoot h = refl
-none_drew m reply.TooMuch h = refl
-none_drew m reply.Busy h = refl
-none_drew m reply.Shown h = refl
-none_drew m reply.Nothing h = refl
-none_drew m reply.Ended h = refl
+none_drew m r h = grind (arith, nat_tests)
 
 abbrev is_busy : Reply → Bool
 is_busy reply.Busy = true
@@ -72,24 +26,12 @@ is_busy _ = false
 abbrev IsFree : Answer → Type 0
 IsFree a = is_busy a.reply ≡ false
 
-busy_by : (t : Bool) (a b : Answer) → IsFree a → IsFree b → IsFree (cond t a b)
-busy_by true a b h k = h
-busy_by false a b h k = k
-
 free_by : (t : Bool) (a b : Answer) → t ≡ false → IsFree b → IsFree (cond t a b)
-free_by true a b e h = absurd (cc)
-free_by false a b e h = h
-
-scene_free : (p : Plan) (w : World) (scene : Scene) → IsFree (scene_answer p w scene)
-unfolding scene_answer
-scene_free p w scene =
-    let walked = walk_of p.size scene in
-    let damage = drawn_damage p.size w.last (accepted_frames w) scene.root walked in
-    busy_by (too_much walked) _ _ refl (busy_by (is_some w.last && is_empty_rect damage) _ _ refl refl)
+free_by t a b e h = grind (arith, nat_tests)
 
 drawn_free : (p : Plan) (w : World) (o : Option Scene) → IsFree (elim o [ Some scene ↦ scene_answer p w scene | None ↦ says reply.NoRoot w ])
-drawn_free p w None = refl
-drawn_free p w (Some scene) = scene_free p w scene
+unfolding scene_answer
+drawn_free p w o = grind (arith, nat_tests)
 
 draw_free : (p : Plan) (w : World) → is_some w.in_flight ≡ false → IsFree (draw_answer p w)
 unfolding draw_answer

@@ -1,35 +1,27 @@
 -- What a client's entry is told as, and what its totals become.
-use Rattle.std.proofs.Common.{◌≡◌, ℕ, ◌+◌, ◌^◌, ◌<◌, Bool, true, false, cond, Option, Some, None, List, [], ◌∷◌, ◌++◌, length, refl, ap, sym, ◌∙◌, subst, length-append}
+use Rattle.std.proofs.Common.{◌≡◌, ℕ, ◌+◌, ◌^◌, ◌<◌, Bool, false, cond, Option, Some, None, List, [], ◌∷◌, ◌++◌, length, refl, ap, ◌∙◌, subst, length-append, arith}
 use Rattle.std.specs.Prelude.{is_none, not, ◌&&◌}
-use Rattle.vz_frame.specs.declared.message.Message.{Message}
-use Rattle.vz_frame.specs.declared.message.Message.TheVariants.{Upload, Submit, DidNotProduce, Reclaim, SetRoot, Hierarchy, Await, Close}
-use Rattle.vz_rules.specs.Plan.{Plan}
+use Rattle.vz_frame.specs.{declared.message.Message.Message, declared.message.Message.TheVariants.Await}
+use Rattle.vz_rules.specs.{Plan.Plan, declared.entry.Refusal.Refusal, declared.entry.Entry.Entry, Accounts.accepts, Accounts.takes, Accounts.taken_in}
 use Rattle.vz_rules.specs.declared.entry.Event.TheVariants as event
 use Rattle.vz_rules.specs.declared.entry.Reply.TheVariants as reply
-use Rattle.vz_rules.specs.declared.entry.Refusal.{Refusal}
 use Rattle.vz_rules.specs.declared.entry.Refusal.TheVariants as refusal
-use Rattle.vz_rules.specs.declared.entry.Entry.{Entry}
 use Rattle.vz_rules.specs.World.{World, Machine, Client, client_at, next_message}
 use Rattle.vz_rules.specs.Messages.{Answer, says, refused, await_answer, message_answer, known_client_answer, client_answer}
 use Rattle.vz_rules.specs.Step.{answer_to, outcome_of, step_in, entry_in, world, Legal}
-use Rattle.vz_rules.specs.Course.{waits}
-use Rattle.vz_rules.specs.Whole.{is_in_time}
-use Rattle.vz_rules.specs.Accounts.{accepts, takes, taken_in, message_at}
-use Rattle.vz_rules.proofs.Cases.{IsTurned, message_cases, number_at}
-use Rattle.vz_rules.proofs.Taken.{taken_are}
+use Rattle.vz_rules.specs.{Course.waits, Whole.is_in_time}
+use Rattle.vz_rules.proofs.{Cases.IsTurned, Cases.message_cases, Cases.number_at, Taken.taken_are}
 use Rattle.vz_machine.specs.declared.machine.Step.{Step}
 use Rattle.vz_machine.specs.Stepping.{Answers, asked, waits_at, listed_in, listed_at}
 use Rattle.vz_desk.proofs.Booking.{entry_is}
-use Rattle.vz_desk.specs.Books.{Booked, IsBooked, next_entry}
-use Rattle.vz_desk.specs.declared.answer.Note.{Note}
-use Rattle.vz_desk.specs.Totals.{noted, noted_with, lent_by, listed_behind, refuses, handed_back, upto_most, TellsNext}
-use Rattle.vz_desk.specs.Answers.{is_early}
+use Rattle.vz_desk.specs.{Books.Booked, Books.IsBooked, declared.answer.Note.Note, Answers.is_early}
+use Rattle.vz_desk.specs.Totals.{noted, noted_with, lent_by, refuses, handed_back, upto_most, TellsNext}
+use Rattle.std.proofs.lemmas.Bool.Decides.{nat_tests}
 
 -- What comes too early
 
 turned_in_time : (r : Refusal) → IsTurned r → is_early (reply.Refused r) ≡ false
-turned_in_time refusal.NotYet t = absurd (cc)
-turned_in_time _ t = refl
+turned_in_time r t = grind (arith, nat_tests)
 
 -- a message that does not wait
 abbrev IsOther : Message → Type 0
@@ -52,36 +44,13 @@ other_in_time w c = message_cases w c (λ m a. IsOther m → is_early a.reply �
   left = λ o. refl;
 }
 
-awaits_in_time : (w : World) (d : Option ℕ) (over closed : Bool) (f : ℕ → World) (g : World) → closed ≡ false → (is_none d && not over && not closed) ≡ false
-    → is_early (elim d as (λ _. Answer) [ Some n ↦ says (reply.Began n) (f n) | None ↦ cond over (says reply.Over g) (says (reply.Refused refusal.NotYet) w) ]).reply ≡ false
-awaits_in_time w (Some n) over closed f g open_one waits = refl
-awaits_in_time w None true closed f g open_one waits = refl
-awaits_in_time w None false true f g open_one waits = absurd (cc)
-awaits_in_time w None false false f g open_one waits = absurd (cc)
-
 abbrev wait_of : World → Client → Message → Bool
 wait_of w c m = elim m [ Await ↦ is_none c.delivered && not w.over && not c.closed | _ ↦ false ]
 
-answer_in_time : (w : World) (c : Client) (m : Message) → c.closed ≡ false → wait_of w c m ≡ false → is_early (message_answer w c m).reply ≡ false
-unfolding message_answer await_answer
-answer_in_time w c Await open_one waits = awaits_in_time w c.delivered w.over c.closed _ _ open_one waits
-answer_in_time w c (Upload id block) open_one waits = other_in_time w c (Upload id block) tt
-answer_in_time w c (Submit local frame) open_one waits = other_in_time w c (Submit local frame) tt
-answer_in_time w c (DidNotProduce n) open_one waits = other_in_time w c (DidNotProduce n) tt
-answer_in_time w c Reclaim open_one waits = other_in_time w c Reclaim tt
-answer_in_time w c (SetRoot local) open_one waits = other_in_time w c (SetRoot local) tt
-answer_in_time w c (Hierarchy parent child) open_one waits = other_in_time w c (Hierarchy parent child) tt
-answer_in_time w c Close open_one waits = other_in_time w c Close tt
-
-closed_in_time : (w : World) (c : Client) (m : Message) (closed : Bool) → c.closed ≡ closed → wait_of w c m ≡ false
-    → is_early (cond closed (refused w c refusal.AlreadyClosed) (message_answer w c m)).reply ≡ false
-closed_in_time w c m true is waits = refl
-closed_in_time w c m false is waits = answer_in_time w c m is waits
-
 next_in_time : (w : World) (c : Client) (o : Option Message) → (elim o as (λ _. Bool) [ Some m ↦ wait_of w c m | None ↦ false ]) ≡ false
     → is_early (elim o as (λ _. Answer) [ None ↦ says (reply.Refused refusal.NoMessage) w | Some m ↦ cond c.closed (refused w c refusal.AlreadyClosed) (message_answer w c m) ]).reply ≡ false
-next_in_time w c None waits = refl
-next_in_time w c (Some m) waits = closed_in_time w c m c.closed refl waits
+unfolding message_answer await_answer
+next_in_time w c o waits = grind (arith, nat_tests, other_in_time)
 
 client_in_time : (p : Plan) (w : World) (o : Option Client) → asked o (waits p w) ≡ false
     → is_early (elim o as (λ _. Answer) [ None ↦ says (reply.Refused refusal.NoMessage) w | Some x ↦ known_client_answer p w x ]).reply ≡ false
@@ -96,19 +65,9 @@ waited_in_time p w c e waits is = ap (λ (x : Entry). is_early x.reply) is ∙ c
 
 -- What is lent
 
-none_accepted : (a : Answer) (p : Plan) (w : World) (c : ℕ) → accepts (record { event = event.Client c; reply = (outcome_of [] a).reply; effects = (outcome_of [] a).effects }) ≡ accepts (record { event = event.Client c; reply = a.reply; effects = (outcome_of [] a).effects })
-unfolding outcome_of
-none_accepted a p w c = refl
-
-lent_known : (p : Plan) (h : List Entry) (c : ℕ) (e : Entry) (x : Client) → client_at (world p h) c ≡ Some x → taken_in (world p h) c ≡ length (takes h c) → listed_in (next_message p x) ≡ listed_behind p h c
-lent_known p h c e x found taken =
-    let took : x.taken ≡ length (takes h c) = sym (ap (λ (o : Option Client). elim o as (λ _. ℕ) [ Some y ↦ y.taken | None ↦ 0 ]) found) ∙ taken in
-    λ i. listed_in (message_at p (number_at (world p h) c x found i) (took i))
-
 lent_of : (p : Plan) (h : List Entry) (c : ℕ) (e : Entry) (o : Option Client) → client_at (world p h) c ≡ o → taken_in (world p h) c ≡ length (takes h c) → (o ≡ None → accepts e ≡ false)
     → cond (accepts e) (elim o as (λ _. ℕ) [ Some x ↦ listed_in (next_message p x) | None ↦ 0 ]) 0 ≡ lent_by p h c e
-lent_of p h c e (Some x) found taken none = ap (λ n. cond (accepts e) n 0) (lent_known p h c e x found taken)
-lent_of p h c e None found taken none = ap (λ (t : Bool). cond t 0 0) (none refl) ∙ sym (ap (λ (t : Bool). cond t (listed_behind p h c) 0) (none refl))
+lent_of p h c e o found taken none = grind (arith, nat_tests, number_at)
 
 unaccepted : (p : Plan) (w : World) (c : ℕ) (o : Option Client) → client_at w c ≡ o → o ≡ None → accepts (entry_in p w (event.Client c)) ≡ false
 unfolding entry_in step_in answer_to outcome_of client_answer
@@ -125,12 +84,7 @@ note_is p h c e listed legal is lists =
 module _ {S : Type 0} {n : ℕ} where
   tells_booked : (m : Machine) (spare : ℕ) (old : Booked S) (c : ℕ) (e : Entry) (listed : ℕ) → IsBooked m n spare old → e ≡ entry_in m.plan m.world (event.Client c) → listed ≡ listed_at m c
       → (told : Note) (timely : Bool) → length old.history + 1 < 2 ^ 64 → told ≡ noted_with e listed (length old.history + 1) → timely ≡ is_in_time e.reply → TellsNext old c told timely
-  tells_booked m spare old c e listed is entry lists told timely few noted_is timely_is =
-      let behind : e ≡ next_entry old (event.Client c) = entry ∙ ap (λ (x : Machine). entry_in x.plan x.world (event.Client c)) is.behind in record {
-        note = noted_is ∙ note_is old.plan old.history c e listed is.legal behind (lists ∙ ap (λ (x : Machine). listed_at x c) is.behind) ∙ ap (noted old.plan old.history c) behind;
-        in_time = timely_is ∙ ap (λ (x : Entry). is_in_time x.reply) behind;
-        few = few;
-      }
+  tells_booked m spare old c e listed is entry lists told timely few noted_is timely_is = grind (arith, nat_tests, note_is old.plan old.history c e listed is.legal)
 
   -- what is told of an entry that a step made
   pub tells_next : (m : Machine) (spare : ℕ) (old : Booked S) (c : ℕ) (s : Step) (e : Entry) (listed : ℕ) (h h1 g f : List Entry) (r : Option S) (note told : Note) (timely : Bool)

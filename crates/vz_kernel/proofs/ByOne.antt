@@ -1,7 +1,7 @@
 -- Products of bytes and one number by a multiply of high halves.
-use Rattle.std.proofs.Common.{◌≡◌, ℕ, zero, suc, ◌+◌, ◌-◌, ◌*◌, ◌/◌, ◌%◌, ◌^◌, ◌<◌, ◌≤◌, List, [], ◌∷◌, length, map, Fits, w8, refl, ap, sym, ◌∙◌, arith}
+use Rattle.std.proofs.Common.{◌≡◌, ℕ, zero, suc, ◌+◌, ◌-◌, ◌*◌, ◌/◌, ◌%◌, ◌^◌, ◌<◌, ◌≤◌, List, [], ◌∷◌, length, map, Fits, w8, refl, ap, ◌∙◌, arith}
 use Rattle.std.specs.Prelude.{replicate}
-use Rattle.std.proofs.Math.Nat.{mul-le-mul_left, mul-le-mul_right}
+use Rattle.std.proofs.{Math.Nat.mul-le-mul_left, Math.Nat.mul-le-mul_right, lemmas.Bool.Decides.nat_tests}
 use lib.Lanes.{zip2, Each1, number_l, digits_l}
 use Rattle.vz_pixels.specs.Colour.{mul}
 use Rattle.vz_kernel.specs.Lanes.{evens, odds, factor_of, AreBytes}
@@ -9,9 +9,7 @@ use Rattle.vz_kernel.proofs.Vectors.{twice, low}
 
 -- the bytes of a lane of two, times 256, over a number
 raised : (x y r : ℕ) → x < 256 → y < 256 → ((x + 256 * (y + 256 * r)) % 65536 * 256 % 65536 ≡ x * 256) × ((x + 256 * (y + 256 * r)) % 65536 / 256 * 256 % 65536 ≡ y * 256)
-raised x y r p q =
-    let e = (low x y r p q).0 in
-    (omega arith, omega arith)
+raised x y r p q = grind (arith, nat_tests, low x y r p q)
 
 pub raised_evens_is : (n : ℕ) (xs : List ℕ) → length xs ≡ twice n → Each1 (Fits w8) xs
     → zip2 (λ a b. a * b % 65536) (digits_l 65536 n (number_l 256 xs)) (replicate n 256) ≡ map (λ x. x * 256) (evens xs)
@@ -19,11 +17,7 @@ raised_evens_is zero [] e h = refl
 raised_evens_is zero (x ∷ xs) e h = absurd (omega arith)
 raised_evens_is (suc n) [] e h = absurd (omega arith)
 raised_evens_is (suc n) (x ∷ []) e h = absurd (omega arith)
-raised_evens_is (suc n) (x ∷ y ∷ zs) e h =
-    let p = h.0.fits in
-    let q = h.1.0.fits in
-    let m = number_l 256 zs in
-    (λ i. (raised x y m p q).0 i ∷ zip2 (λ a b. a * b % 65536) (digits_l 65536 n ((low x y m p q).1 i)) (replicate n 256)) ∙ ap (λ l. x * 256 ∷ l) (raised_evens_is n zs (omega arith) h.1.1)
+raised_evens_is (suc n) (x ∷ y ∷ zs) e h = grind (arith, nat_tests, raised x y, low x y, raised_evens_is n zs)
 
 pub raised_odds_is : (n : ℕ) (xs : List ℕ) → length xs ≡ twice n → Each1 (Fits w8) xs
     → zip2 (λ a b. a * b % 65536) (zip2 (λ a (b : ℕ). a / 2 ^ b) (digits_l 65536 n (number_l 256 xs)) (replicate n 8)) (replicate n 256) ≡ map (λ x. x * 256) (odds xs)
@@ -31,33 +25,19 @@ raised_odds_is zero [] e h = refl
 raised_odds_is zero (x ∷ xs) e h = absurd (omega arith)
 raised_odds_is (suc n) [] e h = absurd (omega arith)
 raised_odds_is (suc n) (x ∷ []) e h = absurd (omega arith)
-raised_odds_is (suc n) (x ∷ y ∷ zs) e h =
-    let p = h.0.fits in
-    let q = h.1.0.fits in
-    let m = number_l 256 zs in
-    (λ i. (raised x y m p q).1 i ∷ zip2 (λ a b. a * b % 65536) (zip2 (λ a (b : ℕ). a / 2 ^ b) (digits_l 65536 n ((low x y m p q).1 i)) (replicate n 8)) (replicate n 256)) ∙ ap (λ l. y * 256 ∷ l) (raised_odds_is n zs (omega arith) h.1.1)
+raised_odds_is (suc n) (x ∷ y ∷ zs) e h = grind (arith, nat_tests, raised x y, low x y, raised_odds_is n zs)
 
 -- the high half of a product z, of a byte a times 256 and the factor of b, where t is a * b: b to 127
 below : (t z : ℕ) → t ≤ 32385 → z ≡ t * 65792 → (z % 4294967296 / 65536 + 128) / 256 ≡ (t + 127) / 255
-below t z p e =
-    let high : z % 4294967296 / 65536 ≡ t * 257 / 256 = omega arith in
-    let rounded : (t * 257 / 256 + 128) / 256 ≡ (t + 127) / 255 = omega arith in
-    ap (λ h. (h + 128) / 256) high ∙ rounded
+below t z p e = grind (arith, nat_tests)
 
 -- the same for b of 128 to 254
 above : (a t z : ℕ) → a ≤ 255 → 128 * a ≤ t → t ≤ 254 * a → z ≡ t * 65792 + a * 256 → (z % 4294967296 / 65536 + 128) / 256 ≡ (t + 127) / 255
-above a t z p q r e =
-    let high : z % 4294967296 / 65536 ≡ (t * 257 + a) / 256 = omega arith in
-    let rounded : ((t * 257 + a) / 256 + 128) / 256 ≡ (t + 127) / 255 = omega arith in
-    ap (λ h. (h + 128) / 256) high ∙ rounded
+above a t z p q r e = grind (arith, nat_tests)
 
 -- the same for 255
 whole : (a t z : ℕ) → a ≤ 255 → t ≡ a * 255 → z ≡ a * 16776960 → (z % 4294967296 / 65536 + 128) / 256 ≡ (t + 127) / 255
-whole a t z p q e =
-    let high : z % 4294967296 / 65536 ≡ a * 65535 / 256 = omega arith in
-    let rounded : (a * 65535 / 256 + 128) / 256 ≡ a = omega arith in
-    let same : (t + 127) / 255 ≡ a = omega arith in
-    ap (λ h. (h + 128) / 256) high ∙ rounded ∙ sym same
+whole a t z p q e = grind (arith, nat_tests)
 
 -- a product of three, put in another order
 turned : (a b : ℕ) → a * 256 * (b * 257) ≡ a * b * 65792
@@ -130,5 +110,4 @@ pub sums_are : (n b : ℕ) (xs ps : List ℕ) → b ≤ 255 → length xs ≡ n 
 sums_are n b [] ps y e xs-bytes small = refl
 sums_are zero b (x ∷ xs) ps y e xs-bytes small = absurd (omega arith)
 sums_are (suc n) b (x ∷ xs) [] y e xs-bytes small = refl
-sums_are (suc n) b (x ∷ xs) (p ∷ ps) y e xs-bytes small =
-    λ i. lane_plus x b (factor_of b) p refl xs-bytes.0 y small.0 i ∷ sums_are n b xs ps y (omega arith) xs-bytes.1 small.1 i
+sums_are (suc n) b (x ∷ xs) (p ∷ ps) y e xs-bytes small = grind (arith, nat_tests, lane_plus x b (factor_of b) p refl xs-bytes.0 y small.0, sums_are n b xs ps y)

@@ -1,13 +1,10 @@
 -- What the lanes of colours are when they are laid over others and scaled.
-use Rattle.std.proofs.Common.{◌≡◌, ℕ, ◌+◌, ◌-◌, ◌%◌, ◌≤◌, List, [], ◌∷◌, map, refl, ap, arith}
+use Rattle.std.proofs.Common.{◌≡◌, ℕ, ◌+◌, ◌-◌, ◌%◌, List, [], ◌∷◌, map, refl, ap, arith}
 use lib.Lanes.{zip2, Each1}
 use Rattle.vz_pixels.specs.Colour.{Colour, IsPremultiplied, mul, scale, over}
-use Rattle.vz_pixels.proofs.Parts.{mul_at_most}
-use Rattle.vz_pixels.proofs.Over.{over_is_premultiplied, scale_is_premultiplied}
+use Rattle.vz_pixels.proofs.{Parts.mul_at_most, Over.over_is_premultiplied, Over.scale_is_premultiplied}
 use Rattle.vz_kernel.specs.Lanes.{channels, evens, odds, woven, doubled, each_twice, AreBytes}
-
-sum : (x a d : ℕ) → x ≤ a → a ≤ 255 → d ≤ 255 → (x + mul d (255 - a)) % 256 ≡ x + mul d (255 - a)
-sum x a d p q r = let h = mul_at_most d (255 - a) r in omega arith
+use Rattle.std.proofs.lemmas.Bool.Decides.{nat_tests}
 
 -- lanes of colours over lanes of others
 abbrev pub over_lanes : List ℕ → List ℕ → List ℕ
@@ -19,13 +16,7 @@ pub over_is : (ss ds : List Colour) → AreBytes (channels ss) → AreBytes (cha
 unfolding over
 over_is [] ds p q good = refl
 over_is (s ∷ ss) [] p q good = refl
-over_is (s ∷ ss) (d ∷ ds) p q good =
-    let top = p.1.1.1.0 in
-    let r = sum s.r s.a d.r good.0.r top q.0 in
-    let g = sum s.g s.a d.g good.0.g top q.1.0 in
-    let b = sum s.b s.a d.b good.0.b top q.1.1.0 in
-    let a = sum s.a s.a d.a (omega arith) top q.1.1.1.0 in
-    λ i. r i ∷ g i ∷ b i ∷ a i ∷ over_is ss ds p.1.1.1.1 q.1.1.1.1 good.1 i
+over_is (s ∷ ss) (d ∷ ds) p q good = grind (arith, nat_tests, mul_at_most, over_is ss ds p.1.1.1.1 q.1.1.1.1 good.1)
 
 -- lanes of colours by lanes of parts
 abbrev pub scaled_lanes : List ℕ → List ℕ → List ℕ

@@ -3,10 +3,10 @@ use Rattle.std.proofs.Common.{◌≡◌, ℕ, zero, suc, ◌+◌, ◌-◌, ◌�
 use Rattle.std.specs.Prelude.{replicate}
 use lib.Lanes.{zip2, Each1}
 use Rattle.vz_pixels.specs.Colour.{Colour, IsPremultiplied, mul, scale, over}
-use Rattle.vz_pixels.proofs.Parts.{mul_at_most}
-use Rattle.vz_pixels.proofs.Over.{over_is_premultiplied, scale_is_premultiplied}
+use Rattle.vz_pixels.proofs.{Parts.mul_at_most, Over.over_is_premultiplied, Over.scale_is_premultiplied}
 use Rattle.vz_kernel.specs.Lanes.{channels, evens, odds, woven, AreBytes}
 use Rattle.vz_kernel.proofs.Vectors.{twice, small_part}
+use Rattle.std.proofs.lemmas.Bool.Decides.{nat_tests}
 
 -- lanes by one number, and other lanes added
 abbrev pub sums_by : ℕ → List ℕ → List ℕ → List ℕ
@@ -21,22 +21,16 @@ sum_small p a d x y z = let h = mul_at_most d (255 - a) z in omega arith
 
 pub evens_small : (c : Colour) (ds : List Colour) → AreBytes (tops c ds) → Each1 IsPremultiplied (replicate (length ds) c) → AreBytes (channels ds) → AreBytes (sums_by (255 - c.a) (evens (channels ds)) (evens (tops c ds)))
 evens_small c [] p good q = tt
-evens_small c (d ∷ ds) p good q =
-    let top = p.1.1.1.0 in
-    (sum_small c.r c.a d.r good.0.r top q.0, (sum_small c.b c.a d.b good.0.b top q.1.1.0, evens_small c ds p.1.1.1.1 good.1 q.1.1.1.1))
+evens_small c (d ∷ ds) p good q = grind (arith, nat_tests, sum_small c.r c.a d.r good.0.r, sum_small c.b c.a d.b good.0.b, evens_small c ds p.1.1.1.1 good.1 q.1.1.1.1)
 
 pub odds_small : (c : Colour) (ds : List Colour) → AreBytes (tops c ds) → Each1 IsPremultiplied (replicate (length ds) c) → AreBytes (channels ds) → AreBytes (sums_by (255 - c.a) (odds (channels ds)) (odds (tops c ds)))
 odds_small c [] p good q = tt
-odds_small c (d ∷ ds) p good q =
-    let top = p.1.1.1.0 in
-    (sum_small c.g c.a d.g good.0.g top q.1.0, (sum_small c.a c.a d.a (omega arith) top q.1.1.1.0, odds_small c ds p.1.1.1.1 good.1 q.1.1.1.1))
+odds_small c (d ∷ ds) p good q = grind (arith, nat_tests, sum_small c.g c.a d.g good.0.g, sum_small c.a c.a d.a, odds_small c ds p.1.1.1.1 good.1 q.1.1.1.1)
 
 pub tinted_is : (c : Colour) (ds : List Colour) → woven (sums_by (255 - c.a) (evens (channels ds)) (evens (tops c ds))) (sums_by (255 - c.a) (odds (channels ds)) (odds (tops c ds))) ≡ channels (map (over c) ds)
 unfolding over
 tinted_is c [] = refl
-tinted_is c (d ∷ ds) =
-    let rest = 255 - c.a in
-    ap (λ l. (c.r + mul d.r rest) ∷ (c.g + mul d.g rest) ∷ (c.b + mul d.b rest) ∷ (c.a + mul d.a rest) ∷ l) (tinted_is c ds)
+tinted_is c (d ∷ ds) = grind (arith, nat_tests, tinted_is c ds)
 
 pub tinted_good : (c : Colour) (ds : List Colour) → AreBytes (tops c ds) → Each1 IsPremultiplied (replicate (length ds) c) → Each1 IsPremultiplied ds → Each1 IsPremultiplied (map (over c) ds)
 tinted_good c [] p g h = tt

@@ -1,8 +1,7 @@
 -- Pixels of a row as lanes, and lanes as pixels of a row.
-use Rattle.std.proofs.Common.{◌≡◌, ℕ, zero, suc, ◌+◌, ◌*◌, ◌/◌, ◌%◌, ◌<◌, ◌≤◌, List, [], ◌∷◌, length, map, get_or, slice_set, refl, ap, subst, sym, ◌∙◌, arith}
+use Rattle.std.proofs.Common.{◌≡◌, ℕ, zero, suc, ◌+◌, ◌*◌, ◌/◌, ◌%◌, ◌<◌, ◌≤◌, List, [], ◌∷◌, length, map, get_or, slice_set, refl, ap, sym, ◌∙◌, arith}
 use Rattle.std.specs.Prelude.{take}
-use Rattle.std.proofs.lemmas.List.{drop_more, take_all}
-use Rattle.std.proofs.lemmas.Simd.{Each1-get_or}
+use Rattle.std.proofs.{lemmas.List.drop_more, lemmas.List.take_all, lemmas.Bool.Decides.nat_tests, lemmas.Grind.common_steps}
 use lib.Lanes.{Each1, chunk, put_chunk, number_l, digits_l}
 use Rattle.vz_pixels.specs.Colour.{Colour, IsPremultiplied, transparent}
 use Rattle.vz_kernel.specs.Lanes.{channels_of, word_of, channels, colours, AreBytes}
@@ -19,13 +18,7 @@ read_none xs i = record { value = refl; good = tt; bytes = tt }
 -- one colour more, before the others
 pub read_more : (xs : List Colour) (i j n w : ℕ) (rest : List ℕ) → j ≡ i + 1 → i < length xs → w ≡ word_of (get_or xs i transparent) → IsPremultiplied (get_or xs i transparent)
     → AreBytes (channels_of (get_or xs i transparent)) → IsRead xs j n rest → IsRead xs i (suc n) (w ∷ rest)
-read_more xs i j n w rest next low e good b r =
-    let split : chunk i (suc n) xs ≡ get_or xs i transparent ∷ chunk j n xs = ap (take (suc n)) (drop_more xs i transparent low) ∙ ap (λ k. get_or xs i transparent ∷ chunk k n xs) (sym next) in
-    record {
-      value = (λ k. e k ∷ r.value k) ∙ ap (map word_of) (sym split);
-      good = subst (Each1 IsPremultiplied) (sym split) (good, r.good);
-      bytes = subst (λ cs. AreBytes (channels cs)) (sym split) (b.0, (b.1.0, (b.1.1.0, (b.1.1.1.0, r.bytes))));
-    }
+read_more xs i j n w rest next low e good b r = grind (arith, nat_tests, drop_more xs i transparent low)
 
 abbrev fours : ℕ → ℕ
 fours zero = zero
@@ -34,33 +27,21 @@ fours (suc n) = suc (suc (suc (suc (fours n))))
 -- the bytes of a number of four bytes, over others
 bytes_of : (r g b a m : ℕ) → r ≤ 255 → g ≤ 255 → b ≤ 255 → a ≤ 255 → (n : ℕ) → n ≡ r + 256 * (g + 256 * (b + 256 * a)) + 4294967296 * m
     → (n % 256 ≡ r) × (n / 256 % 256 ≡ g) × (n / 256 / 256 % 256 ≡ b) × (n / 256 / 256 / 256 % 256 ≡ a) × (n / 256 / 256 / 256 / 256 ≡ m)
-bytes_of r g b a m p q s t n e =
-    let one : n / 256 ≡ g + 256 * (b + 256 * a) + 16777216 * m = omega arith in
-    let two : n / 256 / 256 ≡ b + 256 * a + 65536 * m = omega arith in
-    let three : n / 256 / 256 / 256 ≡ a + 256 * m = omega arith in
-    (omega arith, omega arith, omega arith, omega arith, omega arith)
+bytes_of r g b a m p q s t n e = grind (arith, nat_tests)
 
 -- the bytes of numbers that are colours are their channels
 pub spelled : (n : ℕ) (cs : List Colour) → length cs ≡ n → AreBytes (channels cs) → digits_l 256 (fours n) (number_l 4294967296 (map word_of cs)) ≡ channels cs
 spelled zero [] e h = refl
 spelled zero (c ∷ cs) e h = absurd (omega arith)
 spelled (suc n) [] e h = absurd (omega arith)
-spelled (suc n) (c ∷ cs) e h =
-    let t = bytes_of c.r c.g c.b c.a (number_l 4294967296 (map word_of cs)) h.0 h.1.0 h.1.1.0 h.1.1.1.0 _ refl in
-    (λ i. t.0 i ∷ t.1 i ∷ t.2 i ∷ t.3 i ∷ digits_l 256 (fours n) (t.4 i)) ∙ ap (λ l. c.r ∷ c.g ∷ c.b ∷ c.a ∷ l) (spelled n cs (omega arith) h.1.1.1.1)
+spelled (suc n) (c ∷ cs) e h = grind (arith, nat_tests, spelled n cs)
 
 -- the colour of the k-th four channels
 abbrev pub colour_in : List ℕ → ℕ → Colour
 colour_in vs k = record { r = get_or vs (4 * k) 0; g = get_or vs (4 * k + 1) 0; b = get_or vs (4 * k + 2) 0; a = get_or vs (4 * k + 3) 0 }
 
 past : (r g b a : ℕ) (vs : List ℕ) (k : ℕ) → colour_in (r ∷ g ∷ b ∷ a ∷ vs) (suc k) ≡ colour_in vs k
-past r g b a vs k =
-    let e : 4 * suc k ≡ suc (suc (suc (suc (4 * k)))) = omega arith in
-    let f : 4 * suc k + 1 ≡ suc (suc (suc (suc (4 * k + 1)))) = omega arith in
-    let h : 4 * suc k + 2 ≡ suc (suc (suc (suc (4 * k + 2)))) = omega arith in
-    let m : 4 * suc k + 3 ≡ suc (suc (suc (suc (4 * k + 3)))) = omega arith in
-    let all : List ℕ = r ∷ g ∷ b ∷ a ∷ vs in
-    λ i. record { r = get_or all (e i) 0; g = get_or all (f i) 0; b = get_or all (h i) 0; a = get_or all (m i) 0 }
+past r g b a vs k = grind (arith, nat_tests)
 
 pub colour_is : (vs : List ℕ) (k : ℕ) → 4 * k + 3 < length vs → get_or (colours vs) k transparent ≡ colour_in vs k
 colour_is [] k h = absurd (omega arith)
@@ -79,8 +60,7 @@ length_colours (r ∷ g ∷ b ∷ a ∷ vs) zero e = absurd (omega arith)
 length_colours (r ∷ g ∷ b ∷ a ∷ vs) (suc n) e = ap suc (length_colours vs n (omega arith))
 
 pub is_good : (vs : List ℕ) (k n : ℕ) → length vs ≡ 4 * n → k < n → Each1 IsPremultiplied (colours vs) → IsPremultiplied (colour_in vs k)
-is_good vs k n long low good =
-    subst IsPremultiplied (colour_is vs k (omega arith)) (Each1-get_or IsPremultiplied (colours vs) k transparent (let e = length_colours vs n long in omega arith) good)
+is_good vs k n long low good = grind (arith, nat_tests, common_steps, colour_is vs k, length_colours vs n long)
 
 -- the colours of the channels of colours
 pub colours_channels : (cs : List Colour) → colours (channels cs) ≡ cs

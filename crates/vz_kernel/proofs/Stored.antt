@@ -1,14 +1,13 @@
 -- What sixteen pixels of a row are after they were mixed or changed.
-use Rattle.std.proofs.Common.{◌≡◌, ℕ, zero, suc, ◌+◌, ◌≤◌, List, [], ◌∷◌, ◌++◌, length, map, refl, ap, sym, subst, ◌∙◌, arith}
+use Rattle.std.proofs.Common.{◌≡◌, ℕ, zero, suc, ◌+◌, ◌≤◌, List, [], ◌∷◌, length, map, refl, ap, sym, subst, ◌∙◌, arith}
 use Rattle.std.specs.Prelude.{take, replicate}
-use Rattle.std.proofs.lemmas.Simd.{put_chunk_is}
-use borrow.Rule.Slice.PartMut.{put_mid, post_of}
+use Rattle.std.proofs.{lemmas.Simd.put_chunk_is, lemmas.Bool.Decides.nat_tests}
+use borrow.Rule.Slice.PartMut.{put_mid}
 use lib.Lanes.{zip2, Each1, chunk, put_chunk}
 use Rattle.vz_pixels.specs.Colour.{Colour, IsPremultiplied, mul, scale, over, transparent}
 use Rattle.vz_pixels.proofs.Over.{transparent_stays, opaque_hides, scale_full, scale_none}
 use Rattle.vz_kernel.specs.Lanes.{colours, doubled, odds, each_twice, AreLanes}
-use Rattle.vz_kernel.proofs.Mixed.{alphas_is, parts_twice}
-use Rattle.vz_kernel.proofs.Sixteen.{colours_channels}
+use Rattle.vz_kernel.proofs.{Mixed.alphas_is, Mixed.parts_twice, Sixteen.colours_channels}
 
 colours_are : (v : List ℕ) (cs : List Colour) → AreLanes v cs → colours v ≡ cs
 colours_are v cs h = ap colours h.value ∙ colours_channels cs
@@ -22,8 +21,7 @@ stored at row now v cs ds e h same = e ∙ ap (put_chunk at row) (colours_are v 
 
 -- what is copied over is there
 pub copied : (at k : ℕ) (row ys cs ds : List Colour) → k ≡ length cs → at + length cs ≤ length row → ys ≡ cs → cs ≡ ds → put_mid at k row ys ≡ put_chunk at row ds
-copied at k row ys cs ds e fits same is =
-    ap (put_mid at k row) same ∙ ap (λ n. take at row ++ (cs ++ post_of at n row)) e ∙ sym (put_chunk_is at row cs fits) ∙ ap (put_chunk at row) is
+copied at k row ys cs ds e fits same is = grind (arith, nat_tests, put_chunk_is at row cs fits)
 
 front_stays : (n : ℕ) (xs : List Colour) → put_chunk 0 xs (take n xs) ≡ xs
 front_stays zero [] = refl
@@ -50,16 +48,12 @@ none : (o : ℕ) → mul 0 o ≡ 0
 unfolding mul
 none o = omega arith
 
-scaled_clear : (o : ℕ) → scale transparent o ≡ transparent
-unfolding scale
-scaled_clear o = λ i. record { r = none o i; g = none o i; b = none o i; a = none o i }
-
 pub clear_over_by : (o : ℕ) (ss ds : List Colour) → length ss ≡ length ds → Each1 (λ c. c ≡ transparent) ss → zip2 (λ s d. over (scale s o) d) ss ds ≡ ds
+unfolding scale mul
 clear_over_by o [] [] e h = refl
 clear_over_by o [] (d ∷ ds) e h = absurd (omega arith)
 clear_over_by o (s ∷ ss) [] e h = absurd (omega arith)
-clear_over_by o (s ∷ ss) (d ∷ ds) e h =
-    λ i. (ap (λ c. over (scale c o) d) h.0 ∙ ap (λ c. over c d) (scaled_clear o) ∙ transparent_stays d) i ∷ clear_over_by o ss ds (omega arith) h.1 i
+clear_over_by o (s ∷ ss) (d ∷ ds) e h = grind (arith, nat_tests, transparent_stays d, clear_over_by o ss ds)
 
 pub opaque_over : (ss ds : List Colour) → length ss ≡ length ds → Each1 (λ c. c.a ≡ 255) ss → ss ≡ zip2 over ss ds
 opaque_over [] ds e h = refl
@@ -90,8 +84,7 @@ kept o (suc n) (s ∷ ss) (d ∷ ds) e = ap (λ l. scale d (mul s.a o) ∷ l) (k
 -- the lanes of scaled alphas
 pub kept_lanes : (o : ℕ) (v : List ℕ) (ss : List Colour) (n : ℕ) (by : List ℕ) → AreLanes v ss → by ≡ each_twice (replicate n o)
     → zip2 mul (doubled (odds v)) by ≡ each_twice (zip2 mul (map (λ s. s.a) ss) (replicate n o))
-kept_lanes o v ss n by h e =
-    (λ i. zip2 mul ((ap (λ l. doubled (odds l)) h.value ∙ alphas_is ss) i) (e i)) ∙ parts_twice (map (λ s. s.a) ss) (replicate n o)
+kept_lanes o v ss n by h e = grind (arith, nat_tests, alphas_is ss, parts_twice)
 
 pub opaque_kept : (ss ds : List Colour) → length ss ≡ length ds → Each1 (λ c. c.a ≡ 255) ss → zip2 (λ s d. scale d s.a) ss ds ≡ ds
 opaque_kept [] [] e h = refl

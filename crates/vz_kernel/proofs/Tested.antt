@@ -1,7 +1,7 @@
 -- What a test of all lanes says of colours.
-use Rattle.std.proofs.Common.{◌≡◌, ℕ, zero, suc, ◌*◌, ◌%◌, ◌^◌, ◌≤◌, Bool, true, false, not, cond, eqb, ltb, List, [], ◌∷◌, length, map, IsTrue, w8, refl, ap, sym, ◌∙◌, arith}
+use Rattle.std.proofs.Common.{◌≡◌, ℕ, zero, suc, ◌*◌, ◌%◌, ◌^◌, ◌≤◌, Bool, true, false, not, cond, eqb, ltb, List, [], ◌∷◌, length, map, IsTrue, w8, refl, arith}
 use Rattle.std.specs.Prelude.{replicate}
-use Rattle.std.proofs.lemmas.Simd.{tops_compared, mask_l-mod, length-zip2}
+use Rattle.std.proofs.{lemmas.Simd.tops_compared, lemmas.Simd.mask_l-mod, lemmas.Simd.length-zip2, lemmas.Bool.Decides.nat_tests}
 use lib.Lanes.{zip2, Each1, mask_l, top}
 use Rattle.vz_pixels.specs.Colour.{Colour, transparent}
 use Rattle.vz_kernel.specs.Lanes.{channels, AreBytes}
@@ -20,10 +20,7 @@ is_zero n h = grind arith
 -- where no lane passes a test, none does
 pub none_pass : (t : ℕ → ℕ → Bool) (xs ys : List ℕ) → length xs ≡ 64 → length ys ≡ 64
     → IsTrue (eqb (mask_l (map (top 7) (zip2 (λ a b. cond (t a b) 255 0) xs ys)) % 2 ^ 64) 0) → AreUnset (zip2 t xs ys)
-none_pass t xs ys e f h =
-    let tops = tops_compared w8 t xs ys in
-    let long : length (zip2 t xs ys) ≡ 64 = length-zip2 t xs ys (e ∙ sym f) ∙ e in
-    unset (zip2 t xs ys) (sym (mask_l-mod (zip2 t xs ys) 64 (omega arith)) ∙ ap (λ ms. mask_l ms % 2 ^ 64) (sym tops) ∙ is_zero _ h)
+none_pass t xs ys e f h = grind (arith, nat_tests, tops_compared w8 t xs ys, length-zip2 t xs ys, unset (zip2 t xs ys), mask_l-mod (zip2 t xs ys) 64, is_zero)
 
 abbrev pub differs : ℕ → ℕ → Bool
 differs a b = not (eqb a b)
@@ -37,8 +34,7 @@ clear (c ∷ cs) zero e h = absurd (omega arith)
 clear (c ∷ cs) (suc zero) e h = absurd (omega arith)
 clear (c ∷ cs) (suc (suc zero)) e h = absurd (omega arith)
 clear (c ∷ cs) (suc (suc (suc zero))) e h = absurd (omega arith)
-clear (c ∷ cs) (suc (suc (suc (suc n)))) e h =
-    ((λ i. record { r = same c.r h.0 i; g = same c.g h.1.0 i; b = same c.b h.1.1.0 i; a = same c.a h.1.1.1.0 i }), clear cs n (omega arith) h.1.1.1.1)
+clear (c ∷ cs) (suc (suc (suc (suc n)))) e h = grind (arith, nat_tests, clear cs n)
 
 -- the least channels of opaque colours
 abbrev pub least_opaque : ℕ → List ℕ

@@ -1,7 +1,7 @@
 -- What the operations on the lanes of vectors leave.
 use Rattle.std.proofs.Common.{◌≡◌, ℕ, zero, suc, ◌+◌, ◌-◌, ◌*◌, ◌/◌, ◌%◌, ◌^◌, ◌<◌, ◌≤◌, List, [], ◌∷◌, ◌++◌, length, map, get_or, Fits, w8, refl, ap, ◌∙◌, arith}
 use Rattle.std.specs.Prelude.{replicate}
-use Rattle.std.proofs.Math.Nat.{mul-le-mul_right}
+use Rattle.std.proofs.{Math.Nat.mul-le-mul_right, lemmas.Bool.Decides.nat_tests}
 use lib.Lanes.{zip2, Each1, number_l, digits_l}
 use Rattle.vz_pixels.specs.Colour.{mul}
 use Rattle.vz_pixels.proofs.Parts.{mul_at_most}
@@ -20,24 +20,14 @@ evens_is zero [] e h = refl
 evens_is zero (x ∷ xs) e h = absurd (omega arith)
 evens_is (suc n) [] e h = absurd (omega arith)
 evens_is (suc n) (x ∷ []) e h = absurd (omega arith)
-evens_is (suc n) (x ∷ y ∷ zs) e h =
-    let p = h.0.fits in
-    let q = h.1.0.fits in
-    let r = low x y (number_l 256 zs) p q in
-    let head : (x + 256 * (y + 256 * number_l 256 zs)) % 65536 % 256 ≡ x = let z = r.0 in omega arith in
-    (λ i. head i ∷ zip2 (λ a b. a % b) (digits_l 65536 n (r.1 i)) (replicate n 256)) ∙ ap (λ l. x ∷ l) (evens_is n zs (omega arith) h.1.1)
+evens_is (suc n) (x ∷ y ∷ zs) e h = grind (arith, nat_tests, low x y (number_l 256 zs), evens_is n zs)
 
 pub odds_is : (n : ℕ) (xs : List ℕ) → length xs ≡ twice n → Each1 (Fits w8) xs → zip2 (λ a (b : ℕ). a / 2 ^ b) (digits_l 65536 n (number_l 256 xs)) (replicate n 8) ≡ odds xs
 odds_is zero [] e h = refl
 odds_is zero (x ∷ xs) e h = absurd (omega arith)
 odds_is (suc n) [] e h = absurd (omega arith)
 odds_is (suc n) (x ∷ []) e h = absurd (omega arith)
-odds_is (suc n) (x ∷ y ∷ zs) e h =
-    let p = h.0.fits in
-    let q = h.1.0.fits in
-    let r = low x y (number_l 256 zs) p q in
-    let head : (x + 256 * (y + 256 * number_l 256 zs)) % 65536 / 256 ≡ y = let z = r.0 in omega arith in
-    (λ i. head i ∷ zip2 (λ a (b : ℕ). a / 2 ^ b) (digits_l 65536 n (r.1 i)) (replicate n 8)) ∙ ap (λ l. y ∷ l) (odds_is n zs (omega arith) h.1.1)
+odds_is (suc n) (x ∷ y ∷ zs) e h = grind (arith, nat_tests, low x y (number_l 256 zs), odds_is n zs)
 
 -- two bytes in one lane, over a number
 two : (x y r : ℕ) → x ≤ 255 → y ≤ 255
@@ -53,9 +43,7 @@ woven_is zero [] ys e f p q = refl
 woven_is zero (x ∷ xs) ys e f p q = absurd (omega arith)
 woven_is (suc n) [] ys e f p q = absurd (omega arith)
 woven_is (suc n) (x ∷ xs) [] e f p q = absurd (omega arith)
-woven_is (suc n) (x ∷ xs) (y ∷ ys) e f p q =
-    let t = two x y (number_l 65536 (joined n xs ys)) p.0 q.0 in
-    (λ i. t.0 i ∷ t.1 i ∷ digits_l 256 (twice n) (t.2 i)) ∙ ap (λ l. x ∷ y ∷ l) (woven_is n xs ys (omega arith) (omega arith) p.1 q.1)
+woven_is (suc n) (x ∷ xs) (y ∷ ys) e f p q = grind (arith, nat_tests, woven_is n xs ys)
 
 -- each two lanes of bytes as one of 32 bits
 abbrev fours : List ℕ → List ℕ
@@ -87,11 +75,6 @@ fours_are (suc n) (x ∷ y ∷ zs) e p =
     (λ i. digits_l 4294967296 (suc n) (f.0 i + 256 * (f.1 i + 256 * (f.2 i + 256 * (f.3 i + 256 * number_l 256 (digits_l 256 (twice (twice n)) (f.4 i)))))))
     ∙ (λ i. o.0 i ∷ digits_l 4294967296 n (o.1 i)) ∙ ap (λ l. (x + 65536 * y) ∷ l) (fours_are n zs (omega arith) p.1.1)
 
--- four bytes in one lane, over a number
-four_bytes : (x y z w r : ℕ) → x ≤ 255 → y ≤ 255 → z ≤ 255 → w ≤ 255
-    → (((x + 65536 * z + (y + 65536 * w) * 256 % 4294967296) % 4294967296 + 4294967296 * r) ≡ x + 256 * (y + 256 * (z + 256 * (w + 256 * r))))
-four_bytes x y z w r p q s t = omega arith
-
 -- the bytes of a number
 bytes : (x y z w r : ℕ) → x ≤ 255 → y ≤ 255 → z ≤ 255 → w ≤ 255
     → ((x + 256 * (y + 256 * (z + 256 * (w + 256 * r)))) % 256 ≡ x) × ((x + 256 * (y + 256 * (z + 256 * (w + 256 * r)))) / 256 % 256 ≡ y) × ((x + 256 * (y + 256 * (z + 256 * (w + 256 * r)))) / 256 / 256 % 256 ≡ z)
@@ -110,12 +93,7 @@ woven_fours (suc n) [] ys e f p q = absurd (omega arith)
 woven_fours (suc n) (x ∷ []) ys e f p q = absurd (omega arith)
 woven_fours (suc n) (x ∷ z ∷ xs) [] e f p q = absurd (omega arith)
 woven_fours (suc n) (x ∷ z ∷ xs) (y ∷ []) e f p q = absurd (omega arith)
-woven_fours (suc n) (x ∷ z ∷ xs) (y ∷ w ∷ ys) e f p q =
-    let m = number_l 4294967296 (joined_fours n xs ys) in
-    let b = bytes x y z w m p.0 q.0 p.1.0 q.1.0 in
-    ap (digits_l 256 (twice (twice (suc n)))) (four_bytes x y z w m p.0 q.0 p.1.0 q.1.0)
-    ∙ (λ i. b.0 i ∷ b.1 i ∷ b.2 i ∷ b.3 i ∷ digits_l 256 (twice (twice n)) (b.4 i))
-    ∙ ap (λ l. x ∷ y ∷ z ∷ w ∷ l) (woven_fours n xs ys (omega arith) (omega arith) p.1.1 q.1.1)
+woven_fours (suc n) (x ∷ z ∷ xs) (y ∷ w ∷ ys) e f p q = grind (arith, nat_tests, bytes x y z w, woven_fours n xs ys)
 
 -- bytes of lanes that were read as lanes twice as wide
 abbrev wide : ℕ → List ℕ → List ℕ
@@ -123,9 +101,7 @@ wide n xs = digits_l 4294967296 n (number_l 256 (digits_l 256 (twice (twice n)) 
 
 pub woven_by_fours_is : (n : ℕ) (xs ys : List ℕ) → length xs ≡ twice n → length ys ≡ twice n → AreBytes xs → AreBytes ys
     → digits_l 256 (twice (twice n)) (number_l 4294967296 (zip2 (λ a b. (a + b) % 4294967296) (wide n xs) (zip2 (λ a b. a * b % 4294967296) (wide n ys) (replicate n 256)))) ≡ woven xs ys
-woven_by_fours_is n xs ys e f p q =
-    (λ i. digits_l 256 (twice (twice n)) (number_l 4294967296 (zip2 (λ a b. (a + b) % 4294967296) (fours_are n xs e p i) (zip2 (λ a b. a * b % 4294967296) (fours_are n ys f q i) (replicate n 256)))))
-    ∙ woven_fours n xs ys e f p q
+woven_by_fours_is n xs ys e f p q = grind (arith, nat_tests, fours_are n xs e p, fours_are n ys f q, woven_fours n xs ys e f p q)
 
 -- the second place of each two from a place on, twice
 abbrev places : ℕ → ℕ → List ℕ

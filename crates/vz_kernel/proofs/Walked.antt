@@ -1,8 +1,7 @@
 -- How far a walk along a row has come.
 use Rattle.std.proofs.Common.{◌≡◌, ℕ, zero, suc, ◌+◌, ◌<◌, ◌≤◌, List, [], ◌∷◌, length, map, get_or, slice_set, refl, ap, sym, ◌∙◌, arith}
 use Rattle.std.specs.Prelude.{take}
-use Rattle.std.proofs.lemmas.List.{get_or_default}
-use Rattle.std.proofs.lemmas.Simd.{length-chunk}
+use Rattle.std.proofs.{lemmas.List.get_or_default, lemmas.Simd.length-chunk, lemmas.Bool.Decides.nat_tests}
 use lib.Lanes.{zip2, chunk, put_chunk}
 use Rattle.vz_pixels.specs.Colour.{Colour}
 use Rattle.vz_kernel.specs.Rows.{mixed_upto, changed_upto}
@@ -103,5 +102,4 @@ whole_changed g row = as_mix g (length row) row ∙ whole (λ _ d. g d) row row 
 
 pub one_changed : (g : Colour → Colour) (n m : ℕ) (row now : List Colour) (d r t : Colour) → m ≡ n + 1 → n < length row → now ≡ changed_upto g n row
     → d ≡ get_or now n d → r ≡ g d → slice_set now n r ≡ changed_upto g m row
-one_changed g n m row now d r t next low is q e =
-    one_mixed (λ _ d. g d) n m row row now (get_or row n t) d r t next (ap length is ∙ length_changed g n row) low (is ∙ as_mix g n row) (get_or_default row n t (get_or row n t) low) q e ∙ sym (as_mix g m row)
+one_changed g n m row now d r t next low is q e = grind (arith, nat_tests, one_mixed, length_changed g n row, as_mix g n row, get_or_default row n t (get_or row n t) low, as_mix g m row)

@@ -5,15 +5,14 @@ use lib.Lanes.{zip2}
 use Rattle.vz_pixels.specs.Colour.{Colour, IsPremultiplied, scale, over, transparent}
 use Rattle.vz_pixels.proofs.Over.{scale_none, scale_full, transparent_stays, opaque_hides}
 use Rattle.vz_kernel.specs.Rows.{laid_over, scaled, kept_in, tinted, faded}
+use Rattle.std.proofs.lemmas.Bool.Decides.{nat_tests}
 
 pub over_by_none : (o : ℕ) (src dst : List Colour) → o ≡ 0 → length dst ≡ length src → dst ≡ laid_over src o dst
 unfolding laid_over
 over_by_none o [] [] e long = refl
 over_by_none o [] (d ∷ dst) e long = absurd (omega arith)
 over_by_none o (s ∷ src) [] e long = absurd (omega arith)
-over_by_none o (s ∷ src) (d ∷ dst) e long =
-    let head : over (scale s o) d ≡ d = ap (λ k. over (scale s k) d) e ∙ ap (λ c. over c d) (scale_none s) ∙ transparent_stays d in
-    λ i. sym head i ∷ over_by_none o src dst e (omega arith) i
+over_by_none o (s ∷ src) (d ∷ dst) e long = grind (arith, nat_tests, scale_none s, transparent_stays d, over_by_none o src dst e)
 
 pub over_by_all : (o : ℕ) (src dst : List Colour) → o ≡ 255 → zip2 over src dst ≡ laid_over src o dst
 unfolding laid_over
@@ -47,11 +46,7 @@ kept_by_all o (s ∷ src) [] e = refl
 kept_by_all o (s ∷ src) (d ∷ dst) e = λ i. sym (ap (λ c. scale d c.a) (ap (scale s) e ∙ scale_full s)) i ∷ kept_by_all o src dst e i
 
 none_of : (c : Colour) → IsPremultiplied c → c.a ≡ 0 → c ≡ transparent
-none_of c good e =
-    let r : c.r ≡ 0 = let h = good.r in omega arith in
-    let g : c.g ≡ 0 = let h = good.g in omega arith in
-    let b : c.b ≡ 0 = let h = good.b in omega arith in
-    λ i. record { r = r i; g = g i; b = b i; a = e i }
+none_of c good e = grind (arith, nat_tests)
 
 pub tint_none : (c : Colour) (dst : List Colour) → IsPremultiplied c → c.a ≡ 0 → dst ≡ tinted c dst
 unfolding tinted

@@ -1,12 +1,11 @@
 -- How a seat deals out its numbers.
 use Rattle.std.proofs.Common.{◌≡◌, ℕ, zero, suc, ◌+◌, ◌-◌, ◌<◌, ◌≤◌, List, [], ◌∷◌, ◌++◌, length, refl, sym, ◌∙◌, ap, subst, arith, Option, Some}
-use Rattle.vz_loans.specs.declared.kept.TheConstants.{MOST_CALLERS}
+use Rattle.vz_loans.specs.{declared.kept.TheConstants.MOST_CALLERS, Tokens.Caller, Tokens.unused, Tokens.unused_from}
 use Rattle.vz_loans.specs.declared.view.Stage.TheVariants.{Idle}
 use Rattle.vz_loans.specs.Rule.{numbers_from, view, Seated, IsHeld, left, given, others_of, ready}
-use Rattle.vz_loans.specs.Tokens.{Caller, unused, unused_from}
-use Rattle.vz_loans.proofs.Logs.{numbers_length}
+use Rattle.vz_loans.proofs.{Logs.numbers_length, Closing.caller_of}
 use Rattle.atomic_table.specs.Seated.{TableId}
-use Rattle.vz_loans.proofs.Closing.{caller_of}
+use Rattle.std.proofs.lemmas.Bool.Decides.{nat_tests}
 
 module _ {K P E : Type 0} where
   -- a seat before any entry, with one number of a caller and with these spare ones
@@ -46,8 +45,7 @@ module _ {P E : Type 0} where
       ap (unused_from {E = E} id plan k) t ∙ ap (λ (ts : List (Caller P E)). unused id plan k ∷ ts) (unused_more id plan (k + 1) count ∙ ap (λ (n : ℕ). unused_from id plan (k + 1) count ++ unused id plan n ∷ []) s)
 
   pub unused_all : (id : TableId) (plan : Option P) (callers : ℕ) (xs ys : List (Caller P E)) (x : Caller P E) → 0 < callers → xs ≡ unused_from id plan 1 (callers - 1) → x ≡ unused id plan 0 → ys ≡ x ∷ xs → ys ≡ unused_from id plan 0 callers
-  unused_all id plan callers xs ys x some_caller others first is = let t : suc (callers - 1) ≡ callers = omega arith in
-      is ∙ (λ i. first i ∷ others i) ∙ ap (unused_from {E = E} id plan 0) t
+  unused_all id plan callers xs ys x some_caller others first is = grind (arith, nat_tests)
 
 module _ {K P E : Type 0} where
   pub first_unused : (id own : TableId) (me : Seated K P E) (plan : Option P) (k : ℕ) → own ≡ id → me ≡ ready plan k → caller_of own 0 me ≡ unused id plan 0

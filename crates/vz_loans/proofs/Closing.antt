@@ -1,13 +1,13 @@
 -- How tokens are joined at the end.
 use Rattle.std.proofs.Common.{◌≡◌, ℕ, zero, suc, ◌+◌, ◌<◌, List, [], ◌∷◌, ◌++◌, length, get_or, sym, ap, ◌∙◌, subst, arith, eqb, length-append, append_assoc, false, Some}
 use Rattle.std.specs.Prelude.{All}
-use Rattle.vz_loans.specs.declared.view.View.{View}
-use Rattle.vz_loans.specs.declared.view.Stage.TheVariants.{Idle}
-use Rattle.vz_loans.specs.Rule.{Seated, AllTell, weight, claims_of, IsHeld, is_inside, joined}
+use Rattle.vz_loans.specs.{declared.view.View.View, declared.view.Stage.TheVariants.Idle}
+use Rattle.vz_loans.specs.Rule.{Seated, weight, claims_of, IsHeld, is_inside, joined}
 use Rattle.vz_loans.specs.Tokens.{Caller, numbered, IsWhole, IsAtRest, Covers}
 use Rattle.atomic_table.specs.Seated.{TableId}
 use Rattle.vz_loans.proofs.Keeps.{planned_is}
 use Rattle.vz_loans.proofs.Logs.{olds_left, olds_right, tells_left, tells_right, claims_append}
+use Rattle.std.proofs.lemmas.Bool.Decides.{nat_tests}
 
 module _ {A : Type 0} (P : A → Type 0) where
   abbrev pub Each : List A → Type 0
@@ -40,11 +40,7 @@ module _ {K P E : Type 0} where
   caller_of id number me = record { lock = id; plan = me.0.plan; number = number; seen = me.0.seen; inside = is_inside me.0.stage }
 
   pub covers_own : (id : TableId) (number ticket : ℕ) (me : Seated K P E) → IsHeld number ticket me → Covers me.0 (caller_of id number me)
-  covers_own id number ticket me h plan entries planned begun olds told = record {
-    same_plan = h.planned.1 ∙ sym (planned_is (Some plan) me.0.plan h.planned.0 h.planned.1 planned);
-    begun = begun;
-    counted = sym (subst (λ cs. AllTell cs entries) h.claim told).0;
-  }
+  covers_own id number ticket me h plan entries planned begun olds told = grind (arith, nat_tests, planned_is (Some plan) me.0.plan h.planned.0 h.planned.1 planned)
 
 module _ {P E : Type 0} where
   pub covers_left : (v w : View P E) (t : Caller P E) → Covers v t → Covers (joined v w) t

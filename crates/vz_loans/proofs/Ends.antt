@@ -1,19 +1,17 @@
 -- The steps that begin the lock, end a turn, and cut or join seats keep the rule.
-use Rattle.std.proofs.Common.{◌≡◌, ◌≢◌, ℕ, zero, suc, ◌+◌, ◌-◌, ◌%◌, ◌^◌, ◌<◌, ◌≤◌, ◌⊎◌, Bool, true, false, ltb, ltb-true, ltb-false, List, [], ◌∷◌, ◌++◌, length, set, sym, refl, ap, ◌∙◌, subst, inl, inr, ⊎_elim, arith, append-nil, length-append, length-set, get_or-set_same, get_or-set_other}
+use Rattle.std.proofs.Common.{◌≡◌, ◌≢◌, ℕ, zero, suc, ◌+◌, ◌-◌, ◌%◌, ◌^◌, ◌<◌, ◌≤◌, ◌⊎◌, Bool, true, false, ltb, ltb-false, List, [], ◌∷◌, ◌++◌, length, set, sym, refl, ap, ◌∙◌, subst, inl, inr, ⊎_elim, arith, append-nil, length-append, length-set, get_or-set_same, get_or-set_other}
 use mathlib.Core.List.{IsPrefix}
 use mathlib.Core.Option.{none, some, some-injective, some-ne-none}
 use lib.ListN.{get_elem?}
-use mathlib.Core.Logic.{dite}
-use native.Mathlib.Decide.{ℕ_discrete}
-use Rattle.vz_loans.specs.declared.kept.TheConstants.{MOST_CALLERS}
+use Rattle.vz_loans.specs.{declared.kept.TheConstants.MOST_CALLERS, declared.view.Stage.TheVariants.Idle, declared.view.Stage.TheVariants.Inside}
 use Rattle.std.specs.Prelude.{Option, Some, None, IfSome}
 use Rattle.atomic_table.specs.Table.{State, Me, step, keeps, takes, gives, rest, stepped, Allows, Splits, Joins, opening, Final, Seen}
 use Rattle.atomic_table.proofs.Lists.{at_set, set_here, set_else, at_snoc, at_longer}
 use Rattle.vz_loans.specs.declared.view.View.{View}
-use Rattle.vz_loans.specs.declared.view.Stage.TheVariants.{Idle, Inside}
 use Rattle.vz_loans.specs.Rule.{Log, AllOld, AllTell, places, claims_of, weight, blank, kept, tickets_at, home, IsInTurn, Knows, Fits, ticketed, claimed, spared, kept_on, Lies, Turns, numbers_from, given, left, joined, spent, newcomer, ended_view, ended, retold, first_of, others_of, total}
 use Rattle.vz_loans.proofs.Keeps.{planned_is, knows_out, few_tickets, has_ticket, InTurn, front_stays, lies_on, seats_stay, alone, at_home}
 use Rattle.vz_loans.proofs.Logs.{cut_length, cut_others_length, cut_claims, cut_first, cut_others, blank_claims, blank_append, blank_none, blank_tells, claims_few, weight_few, some_of, one_view, longer_prefix, total_set, total_snoc, one_of, two_of, total_gap, prefix_all, prefix_more, olds_more, olds_append, places_else, tells_else, tells_left, tells_right, retold_tells, retold_length, retold_claims, tells_append, claims_append, numbers_once}
+use Rattle.std.proofs.lemmas.Bool.Decides.{nat_tests}
 
 abbrev pub or_else : {K : Type 0} → K → Option K → K
 or_else d None = d
@@ -24,8 +22,7 @@ slot_state d [] = d
 slot_state d (x ∷ xs) = or_else d x.1
 
 far_test : (b : Bool) (n m : ℕ) → ltb n m ≡ b → m ≤ n → weight b ≡ 0
-far_test true n m e far = let l = ltb-true n m e in absurd (omega arith)
-far_test false n m e far = refl
+far_test b n m e far = grind (arith, nat_tests)
 
 weight_far : (n : ℕ) → MOST_CALLERS ≤ n → weight (ltb n MOST_CALLERS) ≡ 0
 weight_far n far = far_test (ltb n MOST_CALLERS) n MOST_CALLERS refl far
@@ -214,9 +211,7 @@ module _ {K P E : Type 0} (plan_of : K → P) (entries_of : K → Log E) (plan :
 
   -- no other seat has the number of a caller
   claims_elsewhere : (s : St) (r : Rule s) (id : ℕ) (v : V) → get_elem? s.views id ≡ some v → length v.claims ≡ callers → (n : ℕ) → claims_of n v.claims ≡ 0 → (j : ℕ) (u : V) → get_elem? s.views j ≡ some u → claims_of n u.claims ≡ 0
-  claims_elsewhere s r id v at all n absent j u here = dite (ℕ_discrete j id)
-      (λ same. subst (λ (x : V). claims_of n x.claims ≡ 0) (one_view s.views id v u at (subst (λ (i : ℕ). get_elem? s.views i ≡ some u) same here)) absent)
-      (λ ne. let two = two_of claimed s.views id j v u ne at here in let m = r.numbered in let sp = r.spare in let few = claims_few n u.claims in omega (arith, two, m, sp, few, all))
+  claims_elsewhere s r id v at all n absent j u here = grind (arith, nat_tests, one_view s.views id v u at, two_of claimed s.views id j v u, claims_few n u.claims)
 
   -- a view keeps each number that is not strange, and a seat with the numbers of all callers has each of those
   nobody_test : (b : Bool) (s : St) (r : Rule s) (id : ℕ) (v : V) → get_elem? s.views id ≡ some v → length v.claims ≡ callers → (n : ℕ) → claims_of n v.claims ≡ 0 → ltb n MOST_CALLERS ≡ b → places n r.log ≡ []

@@ -1,13 +1,13 @@
 -- What a turn does to a token.
-use Rattle.std.proofs.Common.{◌≡◌, ◌≢◌, ℕ, ◌+◌, ◌%◌, ◌^◌, ◌<◌, Bool, true, false, List, [], ◌∷◌, ◌++◌, length, sym, refl, ap, ◌∙◌, subst, inl, inr, ◌⊎◌, arith, eq-eqb, Option, Some, None}
+use Rattle.std.proofs.Common.{◌≡◌, ◌≢◌, ℕ, ◌+◌, ◌%◌, ◌^◌, ◌<◌, Bool, true, false, List, [], ◌∷◌, ◌++◌, sym, refl, ap, ◌∙◌, subst, inl, inr, ◌⊎◌, arith, eq-eqb, Option, Some, None}
 use mathlib.Core.List.{IsPrefix}
 use mathlib.Core.Option.{none}
 use Rattle.atomic_table.specs.Table.{step, rest, Allows}
-use Rattle.vz_loans.specs.declared.view.View.{View}
-use Rattle.vz_loans.specs.declared.view.Stage.TheVariants.{Waiting, Inside}
-use Rattle.vz_loans.specs.Rule.{Log, Turns, places, retold, claims_of, weight, view, staged, Seated, Enters, looked, ended, ended_view, HasTurn, MayEnter, IsHeld, is_inside}
+use Rattle.vz_loans.specs.{declared.view.View.View, declared.view.Stage.TheVariants.Waiting}
+use Rattle.vz_loans.specs.Rule.{Log, Turns, places, claims_of, weight, staged, Seated, looked, ended, HasTurn, IsHeld, is_inside}
 use native.Mathlib.Nat.{mod-add-mod}
 use Rattle.vz_loans.proofs.Ends.{Follows, ends, or_else, slot_state}
+use Rattle.std.proofs.lemmas.Bool.Decides.{nat_tests}
 
 abbrev full_at : {K : Type 0} → Option K → Bool
 full_at None = false
@@ -19,9 +19,6 @@ module _ {K P E : Type 0} (plan_of : K → P) (entries_of : K → Log E) where
 
   abbrev pub queued : M → ℕ → M
   queued me t = (staged (Waiting t) me.0, me.1)
-
-  pub may_enter : (number ticket : ℕ) (me : M) → IsHeld number ticket me → is_inside me.0.stage ≡ false → MayEnter me
-  may_enter number ticket me h out = record { idle = (h.outside out).0; claims = let l = ap length h.claim in omega arith; planned = h.planned }
 
   pub comes : (me m m' : M) (t ticket r : ℕ) → m ≡ queued me t → ticket ≡ t % 2 ^ 64 → looked plan_of entries_of (step 0 0 0 0 none) m r m' → r ≡ ticket → HasTurn plan_of entries_of me ticket m'
   comes me m m' t ticket r is says look hit = (t, says, (subst (λ (x : M). looked plan_of entries_of (step 0 0 0 0 none) x r m') is look t refl).0 (hit ∙ says))
@@ -38,25 +35,6 @@ module _ {K P E : Type 0} (plan_of : K → P) (entries_of : K → Log E) where
     pub later : IsPrefix me.0.seen m.0.seen
     pub mine : places number m.0.seen ≡ places number me.0.seen
 
-  entered_at : (number old ticket t : ℕ) (me : M) (k : K) → IsHeld number old me → is_inside me.0.stage ≡ false → ticket ≡ t % 2 ^ 64 → (me.0.plan ≡ Some (plan_of k)) → IsPrefix me.0.seen (entries_of k)
-      → Rattle.vz_loans.specs.Rule.AllTell me.0.claims (entries_of k) → Entered number ticket me (view (Inside t) me.0.plan (entries_of k) [] me.0.claims me.0.spares, (0, None) ∷ []) k
-  entered_at number old ticket t me k h out says planned later told =
-      let told' = subst (λ cs. Rattle.vz_loans.specs.Rule.AllTell cs (entries_of k)) h.claim told in record {
-        held = record {
-          planned = h.planned;
-          claim = h.claim ∙ ap (λ (ps : List ℕ). (number, ps) ∷ []) told'.0;
-          settled = refl;
-          outside = λ e. absurd (cc);
-          inside = λ _. (t, refl, says, refl);
-        };
-        same = refl;
-        inside = refl;
-        plan = planned;
-        seen = refl;
-        later = later;
-        mine = sym told'.0;
-      }
-
   abbrev is_full : List (ℕ × Option K) → Bool
   is_full [] = false
   is_full (x ∷ xs) = full_at x.1
@@ -66,10 +44,7 @@ module _ {K P E : Type 0} (plan_of : K → P) (entries_of : K → Log E) where
 
   pub enters : (number old ticket : ℕ) (me m m' : M) (k : K) (found : Option K) → IsHeld number old me → is_inside me.0.stage ≡ false → HasTurn plan_of entries_of me ticket m → m.1 ≡ (0, found) ∷ rest m.1 → found ≡ Some k
       → m' ≡ (m.0, (0, None) ∷ rest m.1) → Entered number ticket me m' k
-  enters number old ticket me m m' k found h out turn has is put = let t : ℕ = turn.0 in let k' : K = turn.2.0 in let at = turn.2.1 in let empty : me.1 ≡ [] = (h.outside out).1 in
-      let same : k' ≡ k = ap (slot_state k) (sym (ap (λ (x : M). x.1) at) ∙ has) ∙ ap (or_else k) is in
-      let whole : m' ≡ (view (Inside t) me.0.plan (entries_of k') [] me.0.claims me.0.spares, (0, None) ∷ []) = put ∙ (λ i. ((at i).0, (0, None) ∷ rest ((at i).1))) ∙ (λ i. (view (Inside t) me.0.plan (entries_of k') [] me.0.claims me.0.spares, (0, None) ∷ empty i)) in
-      subst (λ (x : M × K). Entered number ticket me x.0 x.1) (λ i. (sym whole i, same i)) (entered_at number old ticket t me k' h out turn.1 turn.2.2 turn.2.3 turn.2.5)
+  enters number old ticket me m m' k found h out turn has is put = grind (arith, nat_tests, slot_state k, or_else k)
 
   -- the seat's state k is the one that was seen, or has one entry more
   abbrev pub Adds : ℕ → Log E → K → Type 0
@@ -92,18 +67,4 @@ module _ {K P E : Type 0} (plan_of : K → P) (entries_of : K → Log E) where
     pub seen : m.0.seen ≡ entries_of k
 
   pub left_held : (number ticket : ℕ) (me m m' : M) (k : K) → IsHeld number ticket me → is_inside me.0.stage ≡ true → me.0.plan ≡ Some (plan_of k) → m ≡ (me.0, (0, Some k) ∷ rest me.1) → ended plan_of entries_of (step 0 0 0 0 none) m 0 m' → Left number ticket me m' k
-  left_held number ticket me m m' k h in' planned put told = let b = h.inside in' in let has = ap (λ (x : M). x.1) put in let v : m.0 ≡ me.0 = ap (λ (x : M). x.0) put in
-      let gone : rest m.1 ≡ [] = ap rest has ∙ ap rest b.3 in
-      let m'is : m' ≡ (ended_view (plan_of k) (entries_of k) me.0, []) = told k (has ∙ ap (λ cs. (0, Some k) ∷ cs) (sym (ap rest has))) ∙ (λ i. (ended_view (plan_of k) (entries_of k) (v i), gone i)) in
-      subst (λ (x : M). Left number ticket me x k) (sym m'is) record {
-        held = record {
-          planned = (plan_of k, refl);
-          claim = ap (retold (entries_of k)) h.claim;
-          settled = refl;
-          outside = λ _. (refl, refl);
-          inside = λ e. absurd (cc);
-        };
-        same = sym planned;
-        outside = refl;
-        seen = refl;
-      }
+  left_held number ticket me m m' k h in' planned put told = grind (arith, nat_tests)

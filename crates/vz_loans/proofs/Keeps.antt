@@ -1,5 +1,5 @@
 -- Each step keeps the rule.
-use Rattle.std.proofs.Common.{◌≡◌, ◌≢◌, ℕ, ◌+◌, ◌%◌, ◌^◌, ◌<◌, ◌≤◌, cond, eqb, List, [], ◌∷◌, length, get_or, set, sym, refl, ap, ◌∙◌, subst, ⊎_elim, arith, eq-eqb, ne_eqb, length-set, get_or-set_same, get_or-set_other}
+use Rattle.std.proofs.Common.{◌≡◌, ◌≢◌, ℕ, ◌+◌, ◌%◌, ◌^◌, ◌<◌, ◌≤◌, cond, eqb, List, [], ◌∷◌, length, get_or, set, sym, refl, ap, ◌∙◌, subst, arith, eq-eqb, ne_eqb, length-set, get_or-set_same, get_or-set_other}
 use mathlib.Core.Logic.{dite}
 use mathlib.Core.List.{IsPrefix}
 use mathlib.Core.Option.{none, some, some-injective, some-ne-none}
@@ -11,46 +11,34 @@ use lib.Seq.{set-get_or}
 use Rattle.std.specs.Prelude.{Option, Some, IfSome}
 use Rattle.atomic_table.specs.Table.{State, Me, step, keeps, takes, Allows}
 use Rattle.atomic_table.proofs.Lists.{at_set, set_else, set_again, one_turn}
-use Rattle.vz_loans.specs.declared.view.View.{View}
-use Rattle.vz_loans.specs.declared.view.Stage.{Stage}
+use Rattle.vz_loans.specs.{declared.view.View.View, declared.view.Stage.Stage}
 use Rattle.vz_loans.specs.declared.view.Stage.TheVariants.{Idle, Waiting, Inside}
 use Rattle.vz_loans.specs.Rule.{Log, AllOld, AllTell, tickets_at, Place, home, away, IsInTurn, Knows, Fits, ticketed, claimed, spared, kept_on, Lies, Turns, blank, view, staged, took, Enters, looked}
 use Rattle.vz_loans.proofs.Logs.{set_at, one_view, total_set, total_le, prefix_all, tells_left}
+use Rattle.std.proofs.lemmas.Bool.Decides.{nat_tests}
 
 module _ {K P E : Type 0} where
   -- what a seat knows stays so, where others take tickets
   pub knows_more : (tickets turns tickets' : ℕ) (agreed : Option P) (log : Log E) (owner owner' : ℕ → ℕ) (place : Place K) (j : ℕ) (v : View P E) → tickets ≤ tickets' → ((t : ℕ) → t < tickets → owner' t ≡ owner t)
       → (st : Stage) → Knows tickets turns agreed log owner place j v st → Knows tickets' turns agreed log owner' place j v st
-  knows_more tickets turns tickets' agreed log owner owner' place j v up same Idle k = tt
-  knows_more tickets turns tickets' agreed log owner owner' place j v up same (Waiting t) k = (k.0, omega arith, same t k.1 ∙ k.2, k.3)
-  knows_more tickets turns tickets' agreed log owner owner' place j v up same (Inside t) k = (k.0, omega arith, same t k.1 ∙ k.2, k.3, k.4, k.5, k.6)
+  knows_more tickets turns tickets' agreed log owner owner' place j v up same st k = grind (arith, nat_tests)
 
   -- the same of a seat that is not in turn, where a turn begins or ends
   pub knows_out : (tickets turns turns' : ℕ) (agreed agreed' : Option P) (log log' : Log E) (owner : ℕ → ℕ) (place place' : Place K) (j : ℕ) (v : View P E) → ((t : ℕ) → turns ≤ t → owner t ≡ j → turns' ≤ t)
       → (st : Stage) → (IsInTurn st → ⊥) → Knows tickets turns agreed log owner place j v st → Knows tickets turns' agreed' log' owner place' j v st
-  knows_out tickets turns turns' agreed agreed' log log' owner place place' j v up Idle out k = tt
-  knows_out tickets turns turns' agreed agreed' log log' owner place place' j v up (Waiting t) out k = (up t k.0 k.2, k.1, k.2, k.3)
-  knows_out tickets turns turns' agreed agreed' log log' owner place place' j v up (Inside t) out k = absurd (out tt)
+  knows_out tickets turns turns' agreed agreed' log log' owner place place' j v up st out k = grind (arith, nat_tests)
 
   pub in_turn : (tickets turns : ℕ) (agreed : Option P) (log : Log E) (owner : ℕ → ℕ) (place : Place K) (j : ℕ) (v : View P E) (st : Stage) → Knows tickets turns agreed log owner place j v st → IsInTurn st → owner turns ≡ j
-  in_turn tickets turns agreed log owner place j v Idle k i = absurd i
-  in_turn tickets turns agreed log owner place j v (Waiting t) k i = absurd i
-  in_turn tickets turns agreed log owner place j v (Inside t) k i = ap owner (sym k.0) ∙ k.2
+  in_turn tickets turns agreed log owner place j v st k i = grind (arith, nat_tests)
 
   pub few_tickets : (tickets turns : ℕ) (agreed : Option P) (log : Log E) (owner : ℕ → ℕ) (place : Place K) (j : ℕ) (v : View P E) (st : Stage) → Knows tickets turns agreed log owner place j v st → tickets_at st ≤ length v.claims
-  few_tickets tickets turns agreed log owner place j v Idle k = omega arith
-  few_tickets tickets turns agreed log owner place j v (Waiting t) k = let h : 0 < length v.claims = k.3 in omega arith
-  few_tickets tickets turns agreed log owner place j v (Inside t) k = let h : 0 < length v.claims = k.3 in omega arith
+  few_tickets tickets turns agreed log owner place j v st k = grind (arith, nat_tests)
 
   pub turn_open : (tickets turns : ℕ) (agreed : Option P) (log : Log E) (owner : ℕ → ℕ) (place : Place K) (j : ℕ) (v : View P E) (st : Stage) → Knows tickets turns agreed log owner place j v st → IsInTurn st → turns < tickets
-  turn_open tickets turns agreed log owner place j v Idle k i = absurd i
-  turn_open tickets turns agreed log owner place j v (Waiting t) k i = absurd i
-  turn_open tickets turns agreed log owner place j v (Inside t) k i = let a : t ≡ turns = k.0 in let b : t < tickets = k.1 in omega arith
+  turn_open tickets turns agreed log owner place j v st k i = grind (arith, nat_tests)
 
 pub has_ticket : (st : Stage) → IsInTurn st → tickets_at st ≡ 1
-has_ticket Idle i = absurd i
-has_ticket (Waiting t) i = absurd i
-has_ticket (Inside t) i = refl
+has_ticket st i = grind (arith, nat_tests)
 
 abbrev pub ticket_of : Stage → ℕ
 ticket_of (Waiting t) = t
@@ -90,8 +78,7 @@ module _ {K P E : Type 0} (plan_of : K → P) (entries_of : K → Log E) (plan :
 
   -- the seat in turn stays, where a view changes that is not in turn
   pub front_stays : (vs : List V) (front id : ℕ) (v w : V) → get_elem? vs id ≡ some v → (IsInTurn v.stage → ⊥) → InTurn vs front → InTurn (set vs id w) front
-  front_stays vs front id v w at out (u, here, i) = let ne : front ≢ id = λ e. out (subst (λ (x : V). IsInTurn x.stage) (one_view vs id u v (subst (λ (k : ℕ). get_elem? vs k ≡ some u) e here) at) i) in
-      (u, set_else vs id front w ne ∙ here, i)
+  front_stays vs front id v w at out (u, here, i) = grind (arith, nat_tests, one_view vs id u v, set_else vs id front w)
 
   pub lies_on : (homes : List (maybe.Option (Option K))) (vs ws : List V) (agreed : Option P) (log : Log E) (front front' : ℕ) (place : Place K) → (InTurn vs front → InTurn ws front')
       → Lies plan_of entries_of homes vs agreed log front place → Lies plan_of entries_of homes ws agreed log front' place
@@ -100,8 +87,7 @@ module _ {K P E : Type 0} (plan_of : K → P) (entries_of : K → Log E) (plan :
 
   -- the views after the seat id has the view w
   pub seats_stay : (F : ℕ → V → Type 0) (vs : List V) (id : ℕ) (w : V) → F id w → ((j : ℕ) (v : V) → j ≢ id → get_elem? vs j ≡ some v → F j v) → (j : ℕ) (v : V) → get_elem? (set vs id w) j ≡ some v → F j v
-  seats_stay F vs id w mine others j v e = ⊎_elim (λ (t : (j ≡ id) × (w ≡ v)). subst (λ (x : ℕ × V). F x.0 x.1) (λ i. (sym t.0 i, t.1 i)) mine)
-      (λ (t : (j ≢ id) × (get_elem? vs j ≡ some v)). others j v t.0 t.1) (at_set vs id j w v e)
+  seats_stay F vs id w mine others j v e = grind (arith, nat_tests, at_set vs id j w v e)
 
   pub open_turn : (s : St) (r : Rule s) → InTurn s.views (r.owner r.turns) → r.turns < r.tickets
   open_turn s r h = turn_open r.tickets r.turns (Some plan) r.log r.owner r.place (r.owner r.turns) h.0 h.0.stage (r.each_seat (r.owner r.turns) h.0 h.1).knows h.2

@@ -1,12 +1,13 @@
 -- Totals over the views, prefixes of the list of entries, and places in it.
-use Rattle.std.proofs.Common.{◌≡◌, ◌≢◌, ℕ, zero, suc, ◌+◌, ◌<◌, ◌≤◌, ◌⊎◌, Bool, true, false, cond, eqb, ltb, List, [], ◌∷◌, ◌++◌, length, set, sym, refl, ap, ◌∙◌, inl, inr, arith, append_assoc, append-nil, eq-eqb, ne_eqb, ltb-true, ltb-false, length-append}
+use Rattle.std.proofs.Common.{◌≡◌, ◌≢◌, ℕ, zero, suc, ◌+◌, ◌<◌, ◌≤◌, ◌⊎◌, Bool, true, false, cond, eqb, ltb, List, [], ◌∷◌, ◌++◌, length, set, sym, refl, ap, ◌∙◌, arith, append_assoc, append-nil, eq-eqb, ne_eqb, length-append}
 use mathlib.Core.Logic.{dite}
 use mathlib.Core.List.{IsPrefix}
 use mathlib.Core.Option.{some, some-injective, some-ne-none}
 use native.Mathlib.Decide.{ℕ_discrete}
 use lib.ListN.{get_elem?}
-use Rattle.std.specs.Prelude.{Option, Some, None, IfSome}
+use Rattle.std.specs.Prelude.{Option, Some, IfSome}
 use Rattle.vz_loans.specs.Rule.{Log, Claim, places, places_from, Old, AllOld, AllTell, claims_of, numbers_from, blank, retold, total, weight, first_of, others_of, longer}
+use Rattle.std.proofs.lemmas.Bool.Decides.{nat_tests}
 
 module _ {A : Type 0} where
   pub set_at : (l : List A) (i : ℕ) (v w : A) → get_elem? l i ≡ some v → get_elem? (set l i w) i ≡ some w
@@ -65,8 +66,7 @@ module _ {A : Type 0} where
 
 module _ {P : Type 0} where
   pub replan : (a b : Option P) → ((p : P) → a ≡ Some p → b ≡ Some p) → (o : Option P) → IfSome o (λ p. a ≡ Some p) → IfSome o (λ p. b ≡ Some p)
-  replan a b on None h = tt
-  replan a b on (Some p) h = on p h
+  replan a b on o h = grind (arith, nat_tests)
 
 module _ {P E : Type 0} where
   pub olds_more : (a b : Option P) (on : (p : P) → a ≡ Some p → b ≡ Some p) (os : List (Old P E)) (ys more : Log E) → AllOld a os ys → AllOld b os (ys ++ more)
@@ -86,8 +86,7 @@ module _ {P E : Type 0} where
   olds_right a (o ∷ os) ps ys h = olds_right a os ps ys h.1.1
 
 places_grow : (b : Bool) (k : ℕ) (ps qs : List ℕ) (i : ℕ) → ps ≡ qs ++ i ∷ [] → cond b (k ∷ ps) ps ≡ cond b (k ∷ qs) qs ++ i ∷ []
-places_grow true k ps qs i e = ap (λ (l : List ℕ). k ∷ l) e
-places_grow false k ps qs i e = e
+places_grow b k ps qs i e = grind (arith, nat_tests)
 
 module _ {E : Type 0} where
   -- an entry of another caller is at none of this one's places
@@ -111,9 +110,7 @@ module _ {E : Type 0} where
 
   pub tells_else : (cs : List Claim) (log : Log E) (n : ℕ) (e : E) → claims_of n cs ≡ 0 → AllTell cs log → AllTell cs (log ++ (n, e) ∷ [])
   tells_else [] log n e none h = tt
-  tells_else (c ∷ cs) log n e none h = dite (ℕ_discrete c.0 n)
-      (λ is. let one : weight (eqb c.0 n) ≡ 1 = ap weight (eq-eqb c.0 n is) in absurd (omega (arith, one, none)))
-      (λ ne. (h.0 ∙ sym (places_else 1 c.0 log n e (λ is. ne (sym is))), tells_else cs log n e (omega (arith, none)) h.1))
+  tells_else (c ∷ cs) log n e none h = grind (arith, nat_tests, places_else 1 c.0 log n e, tells_else cs log n e)
 
   pub retold_tells : (cs : List Claim) (log : Log E) → AllTell (retold log cs) log
   retold_tells [] log = tt
@@ -153,8 +150,7 @@ numbers_length k zero = refl
 numbers_length k (suc count) = ap suc (numbers_length (k + 1) count)
 
 pub weight_few : (b : Bool) → weight b ≤ 1
-weight_few true = omega arith
-weight_few false = omega arith
+weight_few b = grind (arith, nat_tests)
 
 numbers_above : (n k count : ℕ) → n < k → claims_of n (blank (numbers_from k count)) ≡ 0
 numbers_above n k zero l = refl
@@ -173,20 +169,17 @@ numbers_within n k (suc count) a b = dite (ℕ_discrete k n)
     (λ ne. let no : weight (eqb k n) ≡ 0 = ap weight (ne_eqb k n ne) in let r = numbers_within n (k + 1) count (omega (arith, ne)) (omega arith) in omega (arith, no, r))
 
 below_test : (b : Bool) (n count : ℕ) → ltb n count ≡ b → claims_of n (blank (numbers_from 0 count)) ≡ weight b
-below_test true n count e = let l = ltb-true n count e in numbers_within n 0 count (omega arith) (omega (arith, l))
-below_test false n count e = let l = ltb-false n count e in numbers_past n 0 count (omega (arith, l))
+below_test b n count e = grind (arith, nat_tests, numbers_within n 0 count, numbers_past n 0 count)
 
 -- of the numbers below count each is there once
 pub numbers_once : (n count : ℕ) → claims_of n (blank (numbers_from 0 count)) ≡ weight (ltb n count)
 numbers_once n count = below_test (ltb n count) n count refl
 
 pub cut_length : (ns : List ℕ) → length (others_of ns) + length (blank (first_of ns)) ≡ length ns
-cut_length [] = refl
-cut_length (n ∷ ns) = omega arith
+cut_length ns = grind (arith, nat_tests)
 
 pub cut_others_length : (ns : List ℕ) → length ns ≤ length (others_of ns) + 1
-cut_others_length [] = omega arith
-cut_others_length (n ∷ ns) = omega arith
+cut_others_length ns = grind (arith, nat_tests)
 
 -- a number is claimed no more often than there are claims
 pub claims_few : (n : ℕ) (cs : List Claim) → claims_of n cs ≤ length cs
@@ -194,8 +187,7 @@ claims_few n [] = omega arith
 claims_few n (c ∷ cs) = let r = claims_few n cs in let w = weight_few (eqb c.0 n) in omega arith
 
 pub cut_claims : (m : ℕ) (ns : List ℕ) → claims_of m (blank (others_of ns)) + claims_of m (blank (first_of ns)) ≡ claims_of m (blank ns)
-cut_claims m [] = refl
-cut_claims m (n ∷ ns) = omega arith
+cut_claims m ns = grind (arith, nat_tests)
 
 pub blank_claims : (m : ℕ) (ns ms : List ℕ) → claims_of m (blank (ns ++ ms)) ≡ claims_of m (blank ns) + claims_of m (blank ms)
 blank_claims m [] ms = omega arith
@@ -203,12 +195,10 @@ blank_claims m (n ∷ ns) ms = let r = blank_claims m ns ms in omega arith
 
 module _ {E : Type 0} where
   pub cut_first : (ns : List ℕ) (log : Log E) → AllTell (blank ns) log → AllTell (blank (first_of ns)) log
-  cut_first [] log h = tt
-  cut_first (n ∷ ns) log h = (h.0, tt)
+  cut_first ns log h = grind (arith, nat_tests)
 
   pub cut_others : (ns : List ℕ) (log : Log E) → AllTell (blank ns) log → AllTell (blank (others_of ns)) log
-  cut_others [] log h = tt
-  cut_others (n ∷ ns) log h = h.1
+  cut_others ns log h = grind (arith, nat_tests)
 
   pub blank_append : (ns ms : List ℕ) (log : Log E) → AllTell (blank ns) log → AllTell (blank ms) log → AllTell (blank (ns ++ ms)) log
   blank_append [] ms log a b = b
@@ -217,9 +207,7 @@ module _ {E : Type 0} where
   -- a spare number has no entry
   pub blank_none : (n : ℕ) (ns : List ℕ) (log : Log E) → AllTell (blank ns) log → 0 < claims_of n (blank ns) → places n log ≡ []
   blank_none n [] log h some_claim = absurd (omega (arith, some_claim))
-  blank_none n (m ∷ ms) log h some_claim = dite (ℕ_discrete m n)
-      (λ is. ap (λ (k : ℕ). places k log) (sym is) ∙ sym h.0)
-      (λ ne. let no : weight (eqb m n) ≡ 0 = ap weight (ne_eqb m n ne) in blank_none n ms log h.1 (omega (arith, no, some_claim)))
+  blank_none n (m ∷ ms) log h some_claim = grind (arith, nat_tests, blank_none n ms log h.1)
 
 module _ {A : Type 0} where
   either_prefix : (b : Bool) (xs ys log : List A) → IsPrefix xs log → IsPrefix ys log → IsPrefix (cond b ys xs) log
@@ -238,15 +226,13 @@ module _ {A : Type 0} where
       let r = shorter_begins xs ys (ys ++ q.0) (p.0, tl) (q.0, refl) (omega arith) in (r.0, (λ i. hd i ∷ r.1 i))
 
   either_length : (b : Bool) (xs ys : List A) → ltb (length xs) (length ys) ≡ b → (length xs ≤ length (cond b ys xs)) × (length ys ≤ length (cond b ys xs))
-  either_length true xs ys e = let l = ltb-true (length xs) (length ys) e in (omega arith, omega arith)
-  either_length false xs ys e = let l = ltb-false (length xs) (length ys) e in (omega arith, omega arith)
+  either_length b xs ys e = grind (arith, nat_tests)
 
   pub longer_length : (xs ys : List A) → (length xs ≤ length (longer xs ys)) × (length ys ≤ length (longer xs ys))
   longer_length xs ys = either_length (ltb (length xs) (length ys)) xs ys refl
 
   either_one : (b : Bool) (xs ys : List A) → (cond b ys xs ≡ xs) ⊎ (cond b ys xs ≡ ys)
-  either_one true xs ys = inr refl
-  either_one false xs ys = inl refl
+  either_one b xs ys = grind (arith, nat_tests)
 
   pub longer_one : (xs ys : List A) → (longer xs ys ≡ xs) ⊎ (longer xs ys ≡ ys)
   longer_one xs ys = either_one (ltb (length xs) (length ys)) xs ys
@@ -265,8 +251,7 @@ no_items [] e = refl
 no_items (x ∷ xs) e = absurd (omega arith)
 
 places_cons : (b : Bool) (k : ℕ) (ps qs rs : List ℕ) → ps ≡ qs ++ rs → cond b (k ∷ ps) ps ≡ cond b (k ∷ qs) qs ++ rs
-places_cons true k ps qs rs e = ap (λ (l : List ℕ). k ∷ l) e
-places_cons false k ps qs rs e = e
+places_cons b k ps qs rs e = grind (arith, nat_tests)
 
 module _ {E : Type 0} where
   places_append : (k n : ℕ) (xs ys : Log E) → places_from k n (xs ++ ys) ≡ places_from k n xs ++ places_from (k + length xs) n ys

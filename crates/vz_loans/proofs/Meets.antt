@@ -5,11 +5,11 @@ use mathlib.Core.Option.{none}
 use Rattle.std.specs.Prelude.{Option, Some}
 use Rattle.atomic_table.specs.Table.{State, step, keeps, Allows, Splits}
 use Rattle.atomic_table.proofs.Lists.{set_again, at_snoc, at_longer}
-use Rattle.vz_loans.specs.declared.view.View.{View}
-use Rattle.vz_loans.specs.declared.view.Stage.TheVariants.{Idle}
-use Rattle.vz_loans.specs.Rule.{Log, Claim, places, Old, AllOld, AllTell, IsInTurn, Knows, Fits, blank, ticketed, claimed, spared, kept_on, Turns, view, joined, note, compared, Seated, IsHeld, is_inside, longer}
+use Rattle.vz_loans.specs.{declared.view.View.View, declared.view.Stage.TheVariants.Idle}
+use Rattle.vz_loans.specs.Rule.{Log, Claim, places, Old, AllOld, AllTell, IsInTurn, Knows, Fits, blank, ticketed, claimed, spared, kept_on, Turns, view, joined, note, compared, Seated, IsHeld, is_inside}
 use Rattle.vz_loans.proofs.Keeps.{planned_is, InTurn, front_stays, lies_on, seats_stay}
 use Rattle.vz_loans.proofs.Logs.{AllShort, olds_begin, tells_left, tells_between, shorter_begins, longer_length, longer_one, total_set, total_snoc}
+use Rattle.std.proofs.lemmas.Bool.Decides.{nat_tests}
 
 module _ {K P E : Type 0} (plan_of : K → P) (entries_of : K → Log E) (plan : P) (callers : ℕ) where
   abbrev V : Type 0
@@ -89,28 +89,10 @@ module _ {K P E : Type 0} where
   both_of me w = (joined me.0 (note w.0), me.1)
 
   pub short_olds : (number ticket : ℕ) (me w m : Seated K P E) → IsHeld number ticket me → m ≡ both_of me w → AllShort m.0.olds m.0.seen
-  short_olds number ticket me w m h is = let l = longer_length me.0.seen w.0.seen in
-      subst (λ (x : Seated K P E). AllShort x.0.olds x.0.seen) (sym is) (subst (λ (os : List (Old P E)). AllShort ((me.0.plan, me.0.seen) ∷ (w.0.plan, w.0.seen) ∷ os ++ []) (longer me.0.seen w.0.seen)) (sym h.settled) (l.0, (l.1, tt)))
+  short_olds number ticket me w m h is = grind (arith, nat_tests, longer_length me.0.seen w.0.seen)
 
   pub meets : (number ticket : ℕ) (me w m m' : Seated K P E) → IsHeld number ticket me → is_inside me.0.stage ≡ false → m ≡ both_of me w → compared (step 0 0 0 0 none) m 0 m' → Met number ticket me w m'
-  meets number ticket me w m m' h out is told = let o = h.outside out in let b = both_of me w in let seen : Log E = longer me.0.seen w.0.seen in
-      let c = subst (λ (x : Seated K P E). compared (step 0 0 0 0 none) x 0 m') is told in let cl : me.0.claims ++ [] ≡ (number, places number me.0.seen) ∷ [] = append-nil me.0.claims ∙ h.claim in
-      let t = subst (λ (cs : List Claim). AllTell cs seen) cl c.2 in
-      subst (Met number ticket me w) (sym c.0) record {
-        held = record {
-          planned = h.planned;
-          claim = cl ∙ ap (λ (ps : List ℕ). (number, ps) ∷ []) t.0;
-          settled = refl;
-          outside = λ _. o;
-          inside = λ e. absurd (cc);
-        };
-        plan = refl;
-        outside = out;
-        one = longer_one me.0.seen w.0.seen;
-        first = c.1.1.0;
-        second = c.1.1.1.1.0;
-        mine = sym t.0;
-      }
+  meets number ticket me w m m' h out is told = grind (arith, nat_tests, longer_one me.0.seen w.0.seen)
 
   pub tells_base : (number ticket : ℕ) (me w m : Seated K P E) → IsHeld number ticket me → m ≡ both_of me w → AllTell m.0.claims me.0.seen
   tells_base number ticket me w m h is = subst (λ (cs : List Claim). AllTell cs me.0.seen) (sym (ap (λ (x : Seated K P E). x.0.claims) is ∙ append-nil me.0.claims ∙ h.claim)) (refl, tt)

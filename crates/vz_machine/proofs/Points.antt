@@ -1,9 +1,7 @@
 -- The points of a display by their places, and colours that are patched.
 use Rattle.std.proofs.Common.{◌≡◌, ℕ, zero, suc, ◌+◌, ◌*◌, ◌<◌, ℤ, pos, nat_abs, ◌+ℤ◌, Bool, true, false, ◌||◌, if◌then◌else◌, List, [], ◌∷◌, ◌++◌, length, map, get_or, refl, sym, ap, ◌∙◌, arith}
-use Rattle.std.proofs.lemmas.Int.{ints}
-use Rattle.std.proofs.lemmas.List.{length-append}
-use Rattle.vz_geom.specs.declared.Point.{Point}
-use Rattle.vz_geom.specs.declared.Size.{Size}
+use Rattle.std.proofs.{lemmas.Int.ints, lemmas.List.length-append, lemmas.Bool.Decides.nat_tests}
+use Rattle.vz_geom.specs.{declared.Point.Point, declared.Size.Size}
 use Rattle.vz_geom.specs.Rectangle.{Rectangle, has, row_points, rows_points, points_of}
 use Rattle.vz_pixels.specs.Colour.{Colour}
 use Rattle.vz_rules.specs.Frames.{patched}
@@ -19,10 +17,7 @@ length_row (suc n) x y = ap suc (length_row n (x +ℤ pos 1) y)
 
 length_rows : (h w : ℕ) (y : ℤ) → length (rows_points h w y) ≡ h * w
 length_rows zero w y = sym (omega arith)
-length_rows (suc h) w y =
-    let one : suc h * w ≡ w + h * w = grind arith in
-    length-append (row_points w (pos 0) y) (rows_points h w (y +ℤ pos 1)) ∙ (ap (λ n. n + length (rows_points h w (y +ℤ pos 1))) (length_row w (pos 0) y)
-    ∙ (ap (λ n. w + n) (length_rows h w (y +ℤ pos 1)) ∙ sym one))
+length_rows (suc h) w y = grind (arith, nat_tests, length-append (row_points w (pos 0) y), length_row w (pos 0) y, length_rows h w)
 
 pub length_points : (size : Size) → length (points_of size) ≡ nat_abs size.h * nat_abs size.w
 unfolding points_of
@@ -30,24 +25,17 @@ length_points size = length_rows (nat_abs size.h) (nat_abs size.w) (pos 0)
 
 row_at : (n s x : ℕ) (y : ℤ) (d : Point) → x < n → get_or (row_points n (pos s) y) x d ≡ record { x = pos (s + x); y = y }
 row_at zero s x y d low = absurd (omega arith)
-row_at (suc n) s zero y d low =
-    let same : s ≡ s + 0 = omega arith in ap (λ k. record { x = pos k; y = y }) same
-row_at (suc n) s (suc x) y d low =
-    let next : (pos s +ℤ pos 1) ≡ pos (s + 1) = omega (arith, ints) in
-    let same : (s + 1) + x ≡ s + suc x = omega arith in
-    ap (λ z. get_or (row_points n z y) x d) next ∙ (row_at n (s + 1) x y d (omega arith) ∙ ap (λ k. record { x = pos k; y = y }) same)
+row_at (suc n) s zero y d low = grind (arith, nat_tests)
+row_at (suc n) s (suc x) y d low = grind (arith, nat_tests, ints, row_at n)
 
 in_front : {A : Type 0} (xs ys : List A) (i : ℕ) (d : A) → i < length xs → get_or (xs ++ ys) i d ≡ get_or xs i d
 in_front [] ys i d low = absurd (omega arith)
 in_front (x ∷ xs) ys zero d low = refl
-in_front (x ∷ xs) ys (suc i) d low =
-    let less : i < length xs = omega arith in in_front xs ys i d less
+in_front (x ∷ xs) ys (suc i) d low = grind (arith, nat_tests, in_front xs ys i d)
 
 behind : {A : Type 0} (xs ys : List A) (i : ℕ) (d : A) → get_or (xs ++ ys) (length xs + i) d ≡ get_or ys i d
-behind [] ys i d =
-    let same : 0 + i ≡ i = omega arith in ap (λ k. get_or ys k d) same
-behind (x ∷ xs) ys i d =
-    let same : suc (length xs) + i ≡ suc (length xs + i) = omega arith in ap (λ k. get_or (x ∷ (xs ++ ys)) k d) same ∙ behind xs ys i d
+behind [] ys i d = grind (arith, nat_tests)
+behind (x ∷ xs) ys i d = grind (arith, nat_tests, behind xs ys i d)
 
 rows_at : (h w s x y : ℕ) (d : Point) → x < w → y < h → get_or (rows_points h w (pos s)) (y * w + x) d ≡ point x (s + y)
 rows_at zero w s x y d across down = absurd (omega arith)
@@ -73,14 +61,12 @@ rows_at (suc h) w s x (suc y) d across down =
 -- the point at a place of a display
 pub points_at : (size : Size) (x y : ℕ) (d : Point) → x < nat_abs size.w → y < nat_abs size.h → get_or (points_of size) (y * nat_abs size.w + x) d ≡ point x y
 unfolding points_of
-points_at size x y d across down =
-    let same : 0 + y ≡ y = omega arith in rows_at (nat_abs size.h) (nat_abs size.w) 0 x y d across down ∙ ap (λ k. point x k) same
+points_at size x y d across down = grind (arith, nat_tests, rows_at (nat_abs size.h) (nat_abs size.w) 0 x y d across down)
 
 pub map_at : {A B : Type 0} (f : A → B) (xs : List A) (i : ℕ) (a : A) (b : B) → i < length xs → get_or (map f xs) i b ≡ f (get_or xs i a)
 map_at f [] i a b low = absurd (omega arith)
 map_at f (x ∷ xs) zero a b low = refl
-map_at f (x ∷ xs) (suc i) a b low =
-    let less : i < length xs = omega arith in map_at f xs i a b less
+map_at f (x ∷ xs) (suc i) a b low = grind (arith, nat_tests, map_at f xs i a b)
 
 -- Patches
 
@@ -90,10 +76,7 @@ length_patched part [] [] olds n o = refl
 length_patched part [] (x ∷ news) olds n o = absurd (omega (arith, n))
 length_patched part (p ∷ ps) [] olds n o = absurd (omega (arith, n))
 length_patched part (p ∷ ps) (x ∷ news) [] n o = absurd (omega (arith, o))
-length_patched part (p ∷ ps) (x ∷ news) (y ∷ olds) n o =
-    let fewer : length news ≡ length ps = omega (arith, n) in
-    let less : length olds ≡ length ps = omega (arith, o) in
-    ap suc (length_patched part ps news olds fewer less)
+length_patched part (p ∷ ps) (x ∷ news) (y ∷ olds) n o = grind (arith, nat_tests, length_patched part ps news olds)
 
 pub patched_at : (part : Rectangle) (ps : List Point) (news olds : List Colour) (i : ℕ) (p : Point) (d : Colour) → length news ≡ length ps → length olds ≡ length ps → i < length ps
     → get_or (patched part ps news olds) i d ≡ (if has part (get_or ps i p) then get_or news i d else get_or olds i d)
@@ -102,11 +85,7 @@ patched_at part [] news olds i p d n o low = absurd (omega arith)
 patched_at part (q ∷ ps) [] olds i p d n o low = absurd (omega (arith, n))
 patched_at part (q ∷ ps) (x ∷ news) [] i p d n o low = absurd (omega (arith, o))
 patched_at part (q ∷ ps) (x ∷ news) (y ∷ olds) zero p d n o low = refl
-patched_at part (q ∷ ps) (x ∷ news) (y ∷ olds) (suc i) p d n o low =
-    let fewer : length news ≡ length ps = omega (arith, n) in
-    let less : length olds ≡ length ps = omega (arith, o) in
-    let in_it : i < length ps = omega arith in
-    patched_at part ps news olds i p d fewer less in_it
+patched_at part (q ∷ ps) (x ∷ news) (y ∷ olds) (suc i) p d n o low = grind (arith, nat_tests, patched_at part ps news olds i p d)
 
 -- a part without a point of the list changes nothing
 pub patched_none : (part : Rectangle) (ps : List Point) (news olds : List Colour) → length news ≡ length ps → length olds ≡ length ps → ((p : Point) → has part p ≡ false) → patched part ps news olds ≡ olds
@@ -116,10 +95,7 @@ patched_none part [] [] (y ∷ olds) n o h = absurd (omega (arith, o))
 patched_none part [] (x ∷ news) olds n o h = absurd (omega (arith, n))
 patched_none part (p ∷ ps) [] olds n o h = absurd (omega (arith, n))
 patched_none part (p ∷ ps) (x ∷ news) [] n o h = absurd (omega (arith, o))
-patched_none part (p ∷ ps) (x ∷ news) (y ∷ olds) n o h =
-    let fewer : length news ≡ length ps = omega (arith, n) in
-    let less : length olds ≡ length ps = omega (arith, o) in
-    ap (λ t. (if t then x else y) ∷ patched part ps news olds) (h p) ∙ ap (λ l. y ∷ l) (patched_none part ps news olds fewer less h)
+patched_none part (p ∷ ps) (x ∷ news) (y ∷ olds) n o h = grind (arith, nat_tests, patched_none part ps news olds)
 
 -- two parts are painted one after the other
 pub patched_twice : (one two both : Rectangle) (ps : List Point) (news olds : List Colour) → length news ≡ length ps → length olds ≡ length ps → ((p : Point) → has both p ≡ (has two p || has one p))

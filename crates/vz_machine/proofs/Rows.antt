@@ -1,15 +1,12 @@
 -- The rows of an area, one after the other.
 use Rattle.std.proofs.Common.{◌≡◌, ℕ, ◌+◌, ◌*◌, ◌<◌, ℤ, pos, nat_abs, ◌+ℤ◌, ◌≤ℤ◌, ◌<ℤ◌, Bool, true, false, ◌||◌, mul_comm, List, length, take, drop, refl, sym, ap, ◌∙◌, arith}
-use Rattle.std.proofs.lemmas.Int.{ints, unsigned_abs-mul}
-use Rattle.vz_geom.specs.declared.Size.{Size}
+use Rattle.std.proofs.{lemmas.Int.ints, lemmas.Int.unsigned_abs-mul, lemmas.Bool.Decides.nat_tests}
+use Rattle.vz_geom.specs.{declared.Size.Size, declared.Point.Point, Display.IsDisplaySize}
 use Rattle.std.specs.Prelude.{int_lt}
-use Rattle.vz_geom.specs.declared.Point.{Point}
 use Rattle.vz_geom.specs.Rectangle.{Rectangle, has, points_of, sized, area_of}
-use Rattle.vz_geom.proofs.Sets.{IsIn, to_in, of_in, lt_true}
-use Rattle.vz_geom.proofs.Numbers.{given, stays}
+use Rattle.vz_geom.proofs.{Sets.IsIn, Sets.to_in, Sets.of_in, Sets.lt_true, Numbers.given, Numbers.stays}
 use Rattle.vz_pixels.specs.Colour.{Colour}
 use Rattle.vz_buffers.specs.Canvas.{pixel_count, pixel_place, span_put}
-use Rattle.vz_geom.specs.Display.{IsDisplaySize}
 use Rattle.vz_rules.specs.Frames.{patched}
 use Rattle.vz_machine.specs.Pictured.{IsInside, row_of, first_rows}
 use Rattle.vz_machine.proofs.Points.{length_points, patched_none, patched_twice, length_patched}
@@ -17,48 +14,24 @@ use Rattle.vz_machine.proofs.Spans.{same_tests, row_painted}
 
 -- a number of a display is given as it is
 pub column_given : (size : Size) (area : Rectangle) (x : ℤ) → IsDisplaySize size → IsInside (sized size) area → x ≡ area.x → given x ≡ area.x
-column_given size area x sides inside is =
-    let left = inside.left in
-    let right = inside.right in
-    let wide = inside.wide in
-    let most = sides.not_too_wide in
-    stays x (omega (arith, ints, is, left)) (omega (arith, ints, is, right, wide, most)) ∙ is
+column_given size area x sides inside is = grind (arith, nat_tests, stays x, ints)
 
 pub line_given : (size : Size) (area : Rectangle) (below : ℕ) (y : ℤ) → IsDisplaySize size → IsInside (sized size) area → below < nat_abs area.h → y ≡ area.y +ℤ pos below → given y ≡ area.y +ℤ pos below
-line_given size area below y sides inside low is =
-    let top = inside.top in
-    let bottom = inside.bottom in
-    let high = inside.high in
-    let most = sides.not_too_high in
-    stays y (omega (arith, ints, is, top)) (omega (arith, ints, is, bottom, high, most, low)) ∙ is
+line_given size area below y sides inside low is = grind (arith, nat_tests, stays y, ints)
 
 -- where a row begins
 pub from_is : (size : Size) (area : Rectangle) (below : ℕ) (x y : ℤ) (from : ℕ) → IsDisplaySize size → IsInside (sized size) area → below < nat_abs area.h → x ≡ area.x → y ≡ area.y +ℤ pos below
     → from ≡ pixel_place size (given x) (given y) → from ≡ pixel_place size area.x (area.y +ℤ pos below)
-from_is size area below x y from sides inside low x_is y_is is =
-    is ∙ (ap (λ z. pixel_place size z (given y)) (column_given size area x sides inside x_is) ∙ ap (λ z. pixel_place size area.x z) (line_given size area below y sides inside low y_is))
+from_is size area below x y from sides inside low x_is y_is is = grind (arith, nat_tests, given y, column_given size area x sides inside x_is, line_given size area below y sides inside low y_is)
 
 -- a row of an area fits into the buffer
 pub row_fits : (size canvas : Size) (area : Rectangle) (x : ℤ) (n : ℕ) → IsDisplaySize size → IsInside (sized size) area → x ≡ area.x → n ≡ nat_abs area.w → canvas ≡ size
     → (given x +ℤ pos n) ≤ℤ canvas.w
-row_fits size canvas area x n sides inside x_is n_is same =
-    let right = inside.right in
-    let wide = inside.wide in
-    let column = column_given size area x sides inside x_is in
-    let w_is : canvas.w ≡ size.w = ap (λ (s : Size). s.w) same in
-    omega (arith, ints, right, wide, column, n_is, w_is)
+row_fits size canvas area x n sides inside x_is n_is same = grind (arith, nat_tests, column_given size area x sides inside x_is, ints)
 
 -- no point is in no row
 no_rows : (area : Rectangle) (p : Point) → has (first_rows area 0) p ≡ false
-no_rows area p = by_test (has (first_rows area 0) p) refl
-  where
-    by_test : (t : Bool) → has (first_rows area 0) p ≡ t → has (first_rows area 0) p ≡ false
-    by_test true e =
-        let i = to_in (first_rows area 0) p e in
-        let top = i.top in
-        let bottom = i.bottom in
-        absurd (omega (arith, ints, top, bottom))
-    by_test false e = e
+no_rows area p = grind (arith, nat_tests, to_in (first_rows area 0) p, ints)
 
 -- the rows with one more
 more_rows : (area : Rectangle) (k : ℕ) (p : Point) → has (first_rows area (k + 1)) p ≡ (has (row_of area k) p || has (first_rows area k) p)
@@ -125,23 +98,18 @@ rows_step size area k news olds now more all old_all so_far one =
 
 pub rows_end : (size : Size) (area : Rectangle) (k : ℕ) (news olds now : List Colour) → pos 1 ≤ℤ area.h → k ≡ nat_abs area.h
     → now ≡ patched (first_rows area k) (points_of size) news olds → now ≡ patched area (points_of size) news olds
-rows_end size area k news olds now high is so_far =
-    let tall : pos k ≡ area.h = omega (arith, ints, is) in
-    so_far ∙ ap (λ z. patched (record { x = area.x; y = area.y; w = area.w; h = z }) (points_of size) news olds) tall
+rows_end size area k news olds now high is so_far = grind (arith, nat_tests, ints)
 
 pub rows_long : (size : Size) (area : Rectangle) (news olds now : List Colour) → length news ≡ pixel_count size → length olds ≡ pixel_count size
     → now ≡ patched area (points_of size) news olds → length now ≡ pixel_count size
-rows_long size area news olds now all old_all is =
-    ap length is ∙ (length_patched area (points_of size) news olds (as_many size news all) (as_many size olds old_all) ∙ (length_points size ∙ mul_comm (nat_abs size.h) (nat_abs size.w)))
+rows_long size area news olds now all old_all is = grind (arith, nat_tests, length_patched, as_many, length_points)
 
 pub count_step : (old start n w k more : ℕ) → old ≡ start + k * w → more ≡ old + w → more ≡ start + (k + 1) * w
-count_step old start n w k more so_far is =
-    let next : (k + 1) * w ≡ k * w + w = grind arith in omega (arith, next, so_far, is)
+count_step old start n w k more so_far is = grind (arith, nat_tests)
 
 pub count_end : (area : Rectangle) (old start k : ℕ) → pos 1 ≤ℤ area.w → pos 1 ≤ℤ area.h → k ≡ nat_abs area.h → old ≡ start + k * nat_abs area.w → old ≡ start + area_of area
 unfolding area_of
-count_end area old start k wide high is so_far =
-    so_far ∙ ap (λ n. start + n) (ap (λ n. n * nat_abs area.w) is ∙ (mul_comm (nat_abs area.h) (nat_abs area.w) ∙ sym (unsigned_abs-mul area.w area.h)))
+count_end area old start k wide high is so_far = grind (arith, nat_tests, unsigned_abs-mul area.w area.h)
 
 -- a row is put
 pub row_put : (size canvas : Size) (area : Rectangle) (below : ℕ) (x y : ℤ) (from count : ℕ) (news olds row after : List Colour) → IsDisplaySize size → IsInside (sized size) area → below < nat_abs area.h

@@ -1,20 +1,17 @@
 -- Spans of a row of pixels are patches of one row.
-use Rattle.std.proofs.Common.{◌≡◌, ℕ, ◌+◌, ◌-◌, ◌*◌, ◌/◌, ◌%◌, ◌<◌, ◌≤◌, ℤ, pos, nat_abs, ◌+ℤ◌, ◌≤ℤ◌, Bool, true, false, inl, inr, ◌&&◌, if◌then◌else◌, List, ◌++◌, length, take, drop, get_or, refl, sym, ap, ◌∙◌, mul_comm, length-append, length-drop, arith}
+use Rattle.std.proofs.Common.{◌≡◌, ℕ, ◌+◌, ◌-◌, ◌*◌, ◌/◌, ◌%◌, ◌<◌, ◌≤◌, ℤ, pos, nat_abs, ◌+ℤ◌, Bool, true, false, inl, inr, ◌&&◌, if◌then◌else◌, List, ◌++◌, length, take, drop, get_or, refl, sym, ap, ◌∙◌, mul_comm, length-append, length-drop, arith}
 use Rattle.std.specs.Prelude.{nat_le, nat_lt}
-use Rattle.std.proofs.Math.Nat.{mul-le-mul_right, mod-add-div', mod-lt}
-use Rattle.std.proofs.lemmas.Nat.{div_below}
-use Rattle.std.proofs.lemmas.Bool.{cases_lt}
-use Rattle.std.proofs.lemmas.Int.{ints}
+use Rattle.std.proofs.{Math.Nat.mul-le-mul_right, Math.Nat.mod-add-div', Math.Nat.mod-lt, lemmas.Bool.Decides.nat_tests, lemmas.Grind.common_steps}
+use Rattle.std.proofs.{lemmas.Nat.div_below, lemmas.Bool.cases_lt, lemmas.Int.ints}
 use Rattle.std.proofs.lemmas.List.{length-take-le, ext_get_or, get_or-take, get_or-drop, get_or_append_left, get_or-append_right}
-use Rattle.vz_geom.specs.declared.Size.{Size}
-use Rattle.vz_geom.specs.Rectangle.{Rectangle, has, points_of, sized}
+use Rattle.vz_geom.specs.{declared.Size.Size, Rectangle.Rectangle, Rectangle.has, Rectangle.points_of, Rectangle.sized, Display.IsDisplaySize}
 use Rattle.vz_geom.proofs.Sets.{to_in, of_in, both, and_true}
 use Rattle.vz_pixels.specs.Colour.{Colour, black}
 use Rattle.vz_buffers.specs.Canvas.{pixel_count, pixel_place, span_put}
-use Rattle.vz_geom.specs.Display.{IsDisplaySize}
 use Rattle.vz_rules.specs.Frames.{patched}
 use Rattle.vz_machine.specs.Pictured.{IsInside, row_of}
 use Rattle.vz_machine.proofs.Points.{point, points_at, length_points, patched_at, length_patched}
+pub use Rattle.vz_geom.proofs.Sets.{same_test as same_tests}
 
 -- a pixel of the span where a place is in it, and the old one elsewhere
 put_at : (olds news : List Colour) (a w i : ℕ) (d : Colour) → a + w ≤ length olds → length news ≡ length olds → i < length olds
@@ -63,26 +60,10 @@ put_at olds news a w i d fits same low = by_places (nat_le a i) (nat_lt i (a + w
         ∙ (get_or-drop (a + w) olds (i - (a + w)) d ∙ ap (λ k. get_or olds k d) back)
 
 put_long : (olds news : List Colour) (a w : ℕ) → a + w ≤ length olds → length news ≡ length olds → length (take a olds ++ take w (drop a news) ++ drop (a + w) olds) ≡ length olds
-put_long olds news a w fits same =
-    let one = length-append (take a olds ++ take w (drop a news)) (drop (a + w) olds) in
-    let two = length-append (take a olds) (take w (drop a news)) in
-    let front = length-take-le a olds (omega arith) in
-    let left : length (drop a news) ≡ length news - a = length-drop a news in
-    let row = length-take-le w (drop a news) (omega (arith, left, same)) in
-    let rest = length-drop (a + w) olds in
-    omega (arith, one, two, front, row, rest)
-
--- two tests that hold in the same cases are equal
-pub same_tests : (t u : Bool) → (t ≡ true → u ≡ true) → (u ≡ true → t ≡ true) → t ≡ u
-same_tests true u f g = sym (f refl)
-same_tests false true f g = g refl
-same_tests false false f g = refl
+put_long olds news a w fits same = grind (arith, nat_tests, common_steps, length-take-le a olds, length-take-le w (drop a news))
 
 earlier : (w x y y' : ℕ) → x < w → y < y' → y * w + x < y' * w
-earlier w x y y' across down =
-    let rows : (y + 1) * w ≤ y' * w = mul-le-mul_right w (omega arith) in
-    let one : (y + 1) * w ≡ y * w + w = grind arith in
-    omega arith
+earlier w x y y' across down = grind (arith, nat_tests, mul-le-mul_right)
 
 -- a point is in a span of a row where its place is
 span_has : (w x y n a b : ℕ) → x + n ≤ w → a < w → has (record { x = pos x; y = pos y; w = pos n; h = pos 1 }) (point a b) ≡ (nat_le (y * w + x) (b * w + a) && nat_lt (b * w + a) (y * w + x + n))
@@ -190,12 +171,8 @@ span_is_patch size x y n news olds wide across down all old_all =
         ∙ (ap (λ t. if t then get_or news i black else get_or olds i black) (sym test)
         ∙ sym (patched_at part (points_of size) news olds i (point 0 0) black (all ∙ sym (length_points size)) (old_all ∙ sym (length_points size)) (omega (arith, in_it, in_points))))
 
-pos_of : (z : ℤ) → pos 0 ≤ℤ z → pos (nat_abs z) ≡ z
-pos_of z low = omega (arith, ints)
-
 pub row_length : (news : List Colour) (a n : ℕ) → a + n ≤ length news → length (take n (drop a news)) ≡ n
-row_length news a n fits =
-    let left : length (drop a news) ≡ length news - a = length-drop a news in length-take-le n (drop a news) (omega (arith, left))
+row_length news a n fits = grind (arith, nat_tests, common_steps, length-take-le n (drop a news))
 
 -- a row of an area stands inside the pixels
 pub place_fits : (size : Size) (area : Rectangle) (below : ℕ) (news : List Colour) → IsDisplaySize size → IsInside (sized size) area → below < nat_abs area.h → length news ≡ pixel_count size
@@ -220,24 +197,4 @@ pub row_painted : (size : Size) (area : Rectangle) (below : ℕ) (news olds : Li
     → span_put olds (pixel_place size area.x (area.y +ℤ pos below)) (take (nat_abs area.w) (drop (pixel_place size area.x (area.y +ℤ pos below)) news))
     ≡ patched (row_of area below) (points_of size) news olds
 unfolding span_put
-row_painted size area below news olds sides inside low all old_all =
-    let wide = sides.wide in
-    let left = inside.left in
-    let top = inside.top in
-    let right = inside.right in
-    let bottom = inside.bottom in
-    let some = inside.wide in
-    let tall = inside.high in
-    let y : ℤ = area.y +ℤ pos below in
-    let x_is : pos (nat_abs area.x) ≡ area.x = pos_of area.x left in
-    let y_is : pos (nat_abs y) ≡ y = pos_of y (omega (arith, ints, top)) in
-    let w_is : pos (nat_abs area.w) ≡ area.w = pos_of area.w (omega (arith, ints, some)) in
-    let rows : nat_abs size.h * nat_abs size.w ≡ pixel_count size = mul_comm (nat_abs size.h) (nat_abs size.w) in
-    let row : List Colour = take (nat_abs area.w) (drop (pixel_place size area.x y) news) in
-    let there = place_fits size area below news sides inside low all in
-    let long : length row ≡ nat_abs area.w = row_length news (pixel_place size area.x y) (nat_abs area.w) there in
-    ap (λ n. take (pixel_place size area.x y) olds ++ row ++ drop (pixel_place size area.x y + n) olds) long
-    ∙ (span_is_patch size (nat_abs area.x) (nat_abs y) (nat_abs area.w) news olds (omega (arith, ints, wide)) (omega (arith, ints, left, right, some)) (omega (arith, ints, top, bottom, low, tall)) (all ∙ sym rows) (old_all ∙ sym rows)
-    ∙ (ap (λ z. patched (record { x = z; y = pos (nat_abs y); w = pos (nat_abs area.w); h = pos 1 }) (points_of size) news olds) x_is
-    ∙ (ap (λ z. patched (record { x = area.x; y = z; w = pos (nat_abs area.w); h = pos 1 }) (points_of size) news olds) y_is
-    ∙ ap (λ z. patched (record { x = area.x; y = y; w = z; h = pos 1 }) (points_of size) news olds) w_is)))
+row_painted size area below news olds sides inside low all old_all = grind (arith, nat_tests, ints, place_fits, row_length, span_is_patch)

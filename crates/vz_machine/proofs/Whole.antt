@@ -1,16 +1,12 @@
 -- A picture's colours are its pixels, and an area without a point changes nothing.
-use Rattle.std.proofs.Common.{◌≡◌, ℕ, ◌+◌, ◌*◌, ◌/◌, ◌%◌, ◌<◌, nat_abs, Bool, true, false, if◌then◌else◌, List, length, map, get_or, refl, sym, ap, subst, ◌∙◌, mul_comm, arith}
-use Rattle.std.proofs.Math.Nat.{mod-lt}
-use Rattle.std.proofs.lemmas.Nat.{div_below}
+use Rattle.std.proofs.Common.{◌≡◌, ℕ, ◌+◌, ◌*◌, ◌/◌, ◌%◌, ◌<◌, nat_abs, true, false, List, length, map, get_or, sym, ap, subst, ◌∙◌, mul_comm, arith}
+use Rattle.std.proofs.{Math.Nat.mod-lt, lemmas.Nat.div_below, lemmas.List.ext_get_or, lemmas.List.length-map, lemmas.Bool.Decides.nat_tests}
 use Rattle.std.proofs.lemmas.Int.{ints}
-use Rattle.std.proofs.lemmas.List.{ext_get_or, length-map}
-use Rattle.vz_geom.specs.declared.Point.{Point}
-use Rattle.vz_geom.specs.declared.Size.{Size}
-use Rattle.vz_geom.specs.Rectangle.{Rectangle, IsRectangle, Covers, has, points_of, sized, area_of, is_empty_rect, no_rectangle, with_sides}
+use Rattle.vz_geom.specs.{declared.Point.Point, declared.Size.Size, Display.IsDisplaySize}
+use Rattle.vz_geom.specs.Rectangle.{Rectangle, IsRectangle, Covers, has, points_of, sized, area_of, is_empty_rect, with_sides}
 use Rattle.vz_geom.proofs.Bounds.{in_is_full, of_full, inside_of}
 use Rattle.vz_pixels.specs.Colour.{Colour, black}
 use Rattle.vz_buffers.specs.Canvas.{pixel_count, pixel_place}
-use Rattle.vz_geom.specs.Display.{IsDisplaySize}
 use Rattle.vz_rules.specs.Frames.{patched}
 use Rattle.vz_machine.specs.Pictured.{Pixelled, IsPixelled, IsInside, colours_in, picture_with}
 use Rattle.vz_machine.proofs.Points.{point, points_at, length_points, map_at, patched_none}
@@ -46,36 +42,20 @@ colours_are p is = colours_of_pixels p.size p.pixels is.sides is.all
 
 -- an area without a point has none
 no_point : (area : Rectangle) (p : Point) → is_empty_rect area ≡ true → has area p ≡ false
-no_point area p empty = by_test (has area p) refl
-  where
-    by_test : (t : Bool) → has area p ≡ t → has area p ≡ false
-    by_test true e = absurd (both_are (sym empty ∙ in_is_full area p e))
-      where
-        both_are : true ≡ false → ⊥
-        both_are e = cc
-    by_test false e = e
+no_point area p empty = grind (arith, nat_tests, in_is_full area p)
 
 pub nothing_patched : (size : Size) (area : Rectangle) (news olds : List Colour) → length news ≡ pixel_count size → length olds ≡ pixel_count size → is_empty_rect area ≡ true → olds ≡ patched area (points_of size) news olds
-nothing_patched size area news olds all old_all empty =
-    let many = mul_comm (nat_abs size.w) (nat_abs size.h) ∙ sym (length_points size) in
-    sym (patched_none area (points_of size) news olds (all ∙ many) (old_all ∙ many) (λ p. no_point area p empty))
+nothing_patched size area news olds all old_all empty = grind (arith, nat_tests, length_points size, patched_none area (points_of size) news olds, no_point area)
 
 pub nothing_counted : (area : Rectangle) → IsRectangle area → is_empty_rect area ≡ true → 0 ≡ area_of area
 unfolding with_sides area_of
-nothing_counted area is empty =
-    let none : no_rectangle ≡ area = ap (λ (t : Bool). if t then no_rectangle else area) (sym empty) ∙ is.own in
-    ap area_of none
+nothing_counted area is empty = grind (arith, nat_tests)
 
 -- an area on a display that has points
 pub inside_all : (size : Size) (area : Rectangle) → Covers (sized size) area → is_empty_rect area ≡ false → IsInside (sized size) area
-inside_all size area covers full =
-    let f = of_full area full in
-    let i = inside_of (sized size) area f covers in
-    record { left = i.left; top = i.top; right = i.right; bottom = i.bottom; wide = f.wide; high = f.high }
+inside_all size area covers full = grind (arith, nat_tests, of_full area full, inside_of (sized size) area)
 
 -- what is painted with the pixels is painted with the picture's colours
 pub painted_whole : (size : Size) (area : Rectangle) (own p : Pixelled) (news olds : List Colour) → size ≡ p.size → own ≡ p → IsPixelled own → news ≡ own.pixels
     → patched area (points_of size) news olds ≡ patched area (points_of p.size) (colours_in (picture_with p)) olds
-painted_whole size area own p news olds same is proper all =
-    ap (λ s. patched area (points_of s) news olds) same
-    ∙ ap (λ l. patched area (points_of p.size) l olds) (all ∙ (ap (λ (q : Pixelled). q.pixels) is ∙ sym (colours_are p (subst IsPixelled is proper))))
+painted_whole size area own p news olds same is proper all = grind (arith, nat_tests, colours_are p (subst IsPixelled is proper))

@@ -1,21 +1,13 @@
 -- That several calls of a shelf behave.
-use Rattle.std.proofs.Common.{◌≡◌, ℕ, List, Result, Ok, Err, OnErr, IsErrAnd, IsTrue, sym, ap, subst, ◌∙◌, append-nil, arith}
-use Rattle.vz_outside.specs.Faults.{one_more}
+use Rattle.std.proofs.Common.{◌≡◌, Result, Ok, Err, OnErr, IsErrAnd, sym, ap, subst, ◌∙◌, arith}
+use Rattle.vz_outside.specs.{Faults.one_more, declared.shelf.ShelfError.ShelfError, declared.shelf.ShelfError.TheVariants.Memory}
 use Rattle.vz_outside.specs.Shelved.{Shelved, Name, IsMissing, SameFiles, BehavesUnless}
-use Rattle.vz_outside.specs.Sunk.{Sunk, TakesFront}
-use Rattle.vz_outside.specs.declared.shelf.ShelfError.{ShelfError}
-use Rattle.vz_outside.specs.declared.shelf.ShelfError.TheVariants.{Memory}
-use Rattle.vz_outside.proofs.Calls.{Ran, call_then_call, faultless_then_faultless}
-use Rattle.vz_outside.proofs.Rises.{failed_as, memory_not_failed}
+use Rattle.vz_outside.proofs.{Calls.Ran, Calls.call_then_call, Calls.faultless_then_faultless, Rises.failed_as, Rises.memory_not_failed}
+use Rattle.std.proofs.lemmas.Bool.Decides.{nat_tests}
 
 -- what holds at an error
 pub on_err : {T E : Type 0} (r : Result T E) (P : Type 0) → P → OnErr r P
-on_err (Ok x) P is = tt
-on_err (Err e) P is = is
-
--- a front part of a line, where nothing was printed
-pub nothing_taken : (line : List ℕ) (s : Sunk) → TakesFront line s s
-nothing_taken line s told = (0, omega arith, sym (append-nil s.bytes))
+on_err r _ is = grind (arith, nat_tests)
 
 -- a call behind calls that went through, which fails for one reason at most
 pub then_behaves :
@@ -46,18 +38,11 @@ behaves_as {T = T} {U = U} e a b behaves reason = record {
 
 -- want of memory behind calls that went through
 pub memory_behaves : {T P : Type 0} (a b : Shelved) → Ran a b → BehavesUnless {T = T} P a b (Err Memory)
-memory_behaves a b ran = record {
-  call = ran.call;
-  cause = record { failed = λ is. memory_not_failed is; quiet = λ other. ran.quiet };
-  works = λ faultless is. memory_not_failed is;
-  stays = λ faultless other. ran.stays faultless;
-}
+memory_behaves a b ran = grind (arith, nat_tests, memory_not_failed)
 
 -- what is missing after calls that kept the bytes was missing before
 pub missing_before : (name : Name) (a b : Shelved) → Ran a b → SameFiles a b → IsMissing name b → IsMissing name a
-missing_before name a b ran same missing =
-    let known : IsTrue a.is_known = subst IsTrue ran.call.known missing.0 in
-    (known, sym (same known name) ∙ missing.1)
+missing_before name a b ran same missing = grind (arith, nat_tests)
 
 -- what an error says of the calls is said of a result that is that error
 pub behaves_at :

@@ -1,29 +1,16 @@
 -- Laws on what calls of a shelf change: each holds of no call, and of two calls where it holds of both.
-use Rattle.std.proofs.Common.{◌≡◌, ℕ, Some, None, Option, List, [], ◌∷◌, ◌++◌, IsTrue, Ok, Err, refl, sym, ◌∙◌, ap, subst, arith, append_assoc}
-use Rattle.std.proofs.lemmas.List.{append-nil}
-use Rattle.vz_outside.proofs.Rises.{cause_of_ok, ok_not_failed, failed_as}
-use Rattle.vz_outside.specs.Faults.{one_more}
-use Rattle.vz_outside.specs.Shelved.{Shelved, Name, IsCall, SameFiles, KeepsBytes, ReadsOnly, KeepsOthers, Appends, with_more, IsUntouched, StaysFaultless, Behaves, BehavesUnless}
-use Rattle.vz_outside.specs.declared.shelf.ShelfError.{ShelfError}
+use Rattle.std.proofs.Common.{◌≡◌, ℕ, Some, None, Option, List, [], ◌∷◌, ◌++◌, IsTrue, Ok, refl, sym, ◌∙◌, ap, subst, arith, append_assoc}
+use Rattle.std.proofs.{lemmas.List.append-nil, lemmas.Bool.Decides.nat_tests}
+use Rattle.vz_outside.proofs.Rises.{cause_of_ok, ok_not_failed}
+use Rattle.vz_outside.specs.Shelved.{Shelved, Name, IsCall, SameFiles, ReadsOnly, KeepsOthers, Appends, with_more, IsUntouched, StaysFaultless, BehavesUnless}
 
 -- no call keeps all
 pub call_same : (s : Shelved) → IsCall s s
-call_same s = record {
-  slots = λ slot mode is. is;
-  names = λ told slot mode is. refl;
-  known = refl;
-  faults = omega arith;
-}
+call_same s = grind (arith, nat_tests)
 
 -- what holds of two calls holds of both together
 pub call_then_call : (a b c : Shelved) → IsCall a b → IsCall b c → IsCall a c
-call_then_call a b c first then = record {
-  slots = λ slot mode is. then.slots slot mode (first.slots slot mode is);
-  names = λ told slot mode is.
-      then.names (subst IsTrue (sym first.known) told) slot mode (first.slots slot mode is) ∙ first.names told slot mode is;
-  known = then.known ∙ first.known;
-  faults = omega arith;
-}
+call_then_call a b c first then = grind (arith, nat_tests)
 
 -- bytes are known after a call where they were before
 pub known_after : (a b : Shelved) → IsCall a b → IsTrue a.is_known → IsTrue b.is_known
@@ -32,19 +19,8 @@ known_after a b call told = subst IsTrue (sym call.known) told
 pub files_then_files : (a b c : Shelved) → IsCall a b → SameFiles a b → SameFiles b c → SameFiles a c
 files_then_files a b c call first then told name = then (known_after a b call told) name ∙ first told name
 
-pub bytes_then_bytes : (a b c : Shelved) → IsCall a b → KeepsBytes a b → KeepsBytes b c → KeepsBytes a c
-bytes_then_bytes a b c call first then = record {
-  files = files_then_files a b c call first.files then.files;
-  rests = λ told slot mode is.
-      then.rests (known_after a b call told) slot mode (call.slots slot mode is) ∙ first.rests told slot mode is;
-}
-
 pub reads_then_reads : (one : ℕ) (a b c : Shelved) → IsCall a b → ReadsOnly one a b → ReadsOnly one b c → ReadsOnly one a c
-reads_then_reads one a b c call first then = record {
-  files = files_then_files a b c call first.files then.files;
-  rests = λ told slot mode is other.
-      then.rests (known_after a b call told) slot mode (call.slots slot mode is) other ∙ first.rests told slot mode is other;
-}
+reads_then_reads one a b c call first then = grind (arith, nat_tests, files_then_files a b c call first.files then.files, known_after a b call)
 
 -- no call keeps the others
 pub kept_same : (one : Name) (s : Shelved) → KeepsOthers one s s
@@ -62,10 +38,7 @@ kept_then_kept one a b c call first then = record {
 
 -- where the bytes of all names and all rests stay, those of names other than one do
 pub kept_of_untouched : (one : Name) (a b : Shelved) → IsUntouched a b → KeepsOthers one a b
-kept_of_untouched one a b same = record {
-  files = λ told name other. same.bytes.files told name;
-  rests = λ told slot mode is other. same.bytes.rests told slot mode is;
-}
+kept_of_untouched one a b same = grind (arith, nat_tests)
 
 -- with no more they are as they were
 pub with_more-nil : (bytes : Option (List ℕ)) → with_more bytes [] ≡ bytes
@@ -106,41 +79,12 @@ ran_none s = record { call = call_same s; quiet = refl; stays = λ faultless. re
 
 -- a call that answered went through
 pub ran_one : {T reason : Type 0} (x : T) (a b : Shelved) → BehavesUnless reason a b (Ok x) → Ran a b
-ran_one x a b behaves = record {
-  call = behaves.call;
-  quiet = behaves.cause.quiet (λ same. ok_not_failed x same);
-  stays = λ faultless. behaves.stays faultless (λ same. ok_not_failed x same);
-}
+ran_one x a b behaves = grind (arith, nat_tests, ok_not_failed)
 
 -- so did two where both did
 pub ran_then_ran : (a b c : Shelved) → Ran a b → Ran b c → Ran a c
-ran_then_ran a b c first then = record {
-  call = call_then_call a b c first.call then.call;
-  quiet = then.quiet ∙ first.quiet;
-  stays = λ faultless.
-      faultless_then_faultless a b c (first.stays faultless) (then.stays (first.stays faultless).faultless);
-}
+ran_then_ran a b c first then = grind (arith, nat_tests, call_then_call a b c first.call then.call)
 
 -- calls that went through behaved
 pub ran_behaves : {T reason : Type 0} (x : T) (a b : Shelved) → Ran a b → BehavesUnless reason a b (Ok x)
-ran_behaves x a b ran = record {
-  call = ran.call;
-  cause = cause_of_ok a.faults b.faults x ran.quiet;
-  works = λ faultless same. ok_not_failed x same;
-  stays = λ faultless other. ran.stays faultless;
-}
-
--- and behaved where one that failed came behind them
-pub ran_then_failed :
-    {T U : Type 0} (e : ShelfError) (a b c : Shelved) → Ran a b → Behaves {T = T} b c (Err e) → Behaves {T = U} a c (Err e)
-ran_then_failed {T = T} {U = U} e a b c ran behaves = record {
-  call = call_then_call a b c ran.call behaves.call;
-  cause = record {
-    failed = λ is. subst (λ (n : ℕ). c.faults ≡ one_more n) ran.quiet (behaves.cause.failed (failed_as {T = U} {U = T} e is));
-    quiet = λ other. behaves.cause.quiet (λ is. other (failed_as {T = T} {U = U} e is)) ∙ ran.quiet;
-  };
-  works = λ faultless is. behaves.works (ran.stays faultless).faultless (failed_as {T = U} {U = T} e is);
-  stays = λ faultless other.
-      faultless_then_faultless a b c (ran.stays faultless)
-      (behaves.stays (ran.stays faultless).faultless (λ is. other (failed_as {T = T} {U = U} e is)));
-}
+ran_behaves x a b ran = grind (arith, nat_tests, cause_of_ok, ok_not_failed)

@@ -4,9 +4,8 @@ use Rattle.std.proofs.Math.Seq.{take-length}
 use Rattle.vz_outside.proofs.Counting.{faultless_counted, faultless_not_failing}
 use Rattle.vz_outside.proofs.Rises.{cause_of_failed, cause_of_memory, cause_of_ok, memory_not_failed, ok_not_failed}
 use Rattle.vz_outside.specs.InMemory.{Collected, Collects, sunk_of}
-use Rattle.vz_outside.specs.Numbered.{after_one_call, after_one_fault, is_faultless}
+use Rattle.vz_outside.specs.{Numbered.after_one_call, Numbered.after_one_fault, Numbered.is_faultless, declared.shelf.ShelfError.ShelfError}
 use Rattle.vz_outside.specs.Sunk.{Sunk, Behaves, KeepsBytes, StaysFaultless, Takes}
-use Rattle.vz_outside.specs.declared.shelf.ShelfError.{ShelfError}
 use Rattle.vz_outside.specs.declared.shelf.ShelfError.TheVariants.{Failed, Memory}
 
 -- all that a sink owes of a write

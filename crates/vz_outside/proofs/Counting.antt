@@ -1,18 +1,15 @@
 -- Laws on numbered calls.
-use Rattle.std.proofs.Common.{◌≡◌, ℕ, ◌≤◌, ◌==◌, ◌∙◌, nat_lt, Bool, true, false, ◌||◌, List, [], ◌∷◌, IsTrue, refl, ap, arith}
+use Rattle.std.proofs.Common.{◌≡◌, ℕ, ◌≤◌, ◌==◌, nat_lt, true, false, List, [], ◌∷◌, IsTrue, refl, arith}
 use Rattle.std.specs.List.{list_all, list_any}
 use Rattle.std.proofs.lemmas.Bool.{and_parts, and_from, both_ways, ltb-true, lt-ltb, ne_eqb}
 use Rattle.vz_outside.proofs.Rises.{one_more_least}
-use Rattle.vz_outside.specs.Faults.{one_more}
-use Rattle.vz_outside.specs.Numbered.{Numbered, after_one_call, is_failing, is_faultless}
+use Rattle.vz_outside.specs.{Faults.one_more, Numbered.Numbered, Numbered.after_one_call, Numbered.is_failing, Numbered.is_faultless}
+use Rattle.std.proofs.lemmas.Bool.Decides.{nat_tests}
 
 -- of numbers below another none is equal to it
 none_equal : (numbers : List ℕ) (next : ℕ) → list_all (λ n. nat_lt n next) numbers ≡ true → list_any (λ n. n == next) numbers ≡ false
 none_equal [] next below = refl
-none_equal (n ∷ numbers) next below =
-    let parts = and_parts (nat_lt n next) (list_all (λ m. nat_lt m next) numbers) below in
-    let less = ltb-true n next parts.0 in
-    ap (λ (b : Bool). b || list_any (λ m. m == next) numbers) (ne_eqb n next (λ same. omega arith)) ∙ none_equal numbers next parts.1
+none_equal (n ∷ numbers) next below = grind (arith, nat_tests, and_parts (nat_lt n next), ne_eqb n next, none_equal numbers next)
 
 -- numbers below another are below a greater one
 still_below :

@@ -2,10 +2,9 @@
 use Rattle.std.proofs.Common.{◌≡◌, ◌≢◌, ℕ, Some, List, [], ◌∷◌, ◌++◌, length, set, Result, Ok, Err, IfOk, OnOk, OnErr, inl, inr, refl, sym, ◌∙◌, ap, subst, arith, get_or-set_same}
 use Rattle.std.specs.Option.{option_map_or}
 use Rattle.std.proofs.lemmas.List.{get_or_push}
-use Rattle.vz_outside.proofs.Calls.{kept_of_untouched}
+use Rattle.vz_outside.proofs.{Calls.kept_of_untouched, Slots.get-append}
 use Rattle.vz_outside.proofs.Held.{ChangesOne, change_emptied, open_slot, other_bytes, place_cases, slot_low}
 use Rattle.vz_outside.proofs.Places.{bytes_found, emptied_new, emptied_there, place_emptied, place_low, place_named, place_new}
-use Rattle.vz_outside.proofs.Slots.{get-append}
 use Rattle.vz_outside.proofs.Shelf_rules.{call_kept, ok_behaves, pushed_opened, pushed_slots, stopped_behaves, stopped_untouched}
 use Rattle.vz_outside.specs.InMemory.{File, InMemory, IsKept, Creates, Stops, bytes_in, emptied, file_at, first_named, shelved_of, slot_name, slot_rest, unread, with_slot, writing_to}
 use Rattle.vz_outside.specs.Shelved.{Shelved, Name, Writing, Holds, IsOpened, KeepsOthers, IsUntouched, Behaves}

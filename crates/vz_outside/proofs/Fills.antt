@@ -1,7 +1,6 @@
 -- What stands while a file is read piece by piece.
 use Rattle.std.proofs.Common.{◌≡◌, ℕ, ◌+◌, ◌-◌, ◌<◌, ◌≤◌, List, [], Some, length, take, drop, ◌++◌, Ok, sym, ap, ◌∙◌, arith, length-drop, length-append, append_assoc}
-use Rattle.std.proofs.lemmas.List.{take_at, drop_all, append-nil, length-take-le}
-use Rattle.std.proofs.Math.Seq.{take-append-add}
+use Rattle.std.proofs.{lemmas.List.take_at, lemmas.List.drop_all, lemmas.List.append-nil, lemmas.List.length-take-le, Math.Seq.take-append-add}
 use borrow.Rule.Slice.PartMut.{post_of}
 use Rattle.vz_outside.proofs.Calls.{Ran, ran_one, ran_then_ran, known_after, reads_then_reads}
 use Rattle.vz_outside.specs.Shelved.{Shelved, Reading, Consumes, ReadsOnly, Behaves}

@@ -1,17 +1,13 @@
 -- Laws on what a shelf in memory holds: what files and slots keep, and what always holds of it.
-use Rattle.std.proofs.Common.{◌≡◌, ◌≢◌, ℕ, ◌+◌, ◌-◌, min, ◌<◌, ◌⊎◌, inl, inr, false, Option, Some, None, List, [], ◌∷◌, ◌++◌, length, set, take, drop, slice_get, get_or, refl, sym, ◌∙◌, ap, subst, arith, get_or-set_same, get_or-set_other}
+use Rattle.std.proofs.Common.{◌≡◌, ◌≢◌, ℕ, ◌+◌, ◌-◌, min, ◌<◌, ◌⊎◌, inl, inr, false, Option, Some, None, List, [], ◌∷◌, ◌++◌, length, set, take, drop, slice_get, get_or, refl, sym, ◌∙◌, ap, subst, arith}
 use Rattle.std.specs.Option.{option_map}
-use Rattle.std.proofs.lemmas.Bool.{cases_eq}
-use Rattle.std.proofs.lemmas.List.{get_or_append_left}
+use Rattle.std.proofs.{lemmas.List.get_or_append_left, lemmas.Bool.Decides.nat_tests, lemmas.Grind.common_steps}
 use Rattle.std.proofs.lemmas.Option.{none-some, same_Some, slice_get_read, slice_get_within}
 use Rattle.vz_outside.proofs.Places.{place_low, place_named, place-set, place-append, place_other, emptied_there, emptied_new, bytes_found, bytes_missing}
 use Rattle.vz_outside.proofs.Slots.{get_push, get_set_cases}
 use Rattle.vz_outside.specs.InMemory.{File, InMemory, IsKept, Moves, Puts, file_at, mode_of, first_named, bytes_in, emptied, extended, slot_name}
-use Rattle.vz_outside.specs.Numbered.{Numbered, after_one_call, is_failing}
-use Rattle.vz_outside.specs.Shelved.{Name, Mode, Writing}
-use Rattle.vz_outside.specs.declared.memory.Slot.{Slot}
-use Rattle.vz_outside.specs.declared.memory.Place.{Place}
-use Rattle.vz_outside.specs.declared.memory.Place.TheVariants.{At, End}
+use Rattle.vz_outside.specs.{Numbered.Numbered, Numbered.after_one_call, Numbered.is_failing, declared.memory.Slot.Slot, declared.memory.Place.Place}
+use Rattle.vz_outside.specs.{Shelved.Name, Shelved.Mode, Shelved.Writing, declared.memory.Place.TheVariants.At, declared.memory.Place.TheVariants.End}
 
 -- files changed in the bytes of one name alone, which may be new
 pub record ChangesOne (name : Name) (old new : List File) : Type 0 where
@@ -30,42 +26,15 @@ place_cases files name = split (first_named files name) refl
 
 -- the bytes of other names stay
 pub other_bytes : (name other : Name) (old new : List File) → ChangesOne name old new → other ≢ name → bytes_in new other ≡ bytes_in old other
-other_bytes name other old new change differs =
-    elim (place_cases old other) [
-      | inl found ↦
-          let same : file_at new found.0 ≡ file_at old found.0 =
-          change.others found.0 (place_low old other found.0 found.1)
-          (λ is. differs (sym (place_named old other found.0 found.1) ∙ is)) in
-          bytes_found new other found.0 (change.places other found.0 found.1) ∙
-          ap (λ (f : File). Some f.1) same ∙
-          sym (bytes_found old other found.0 found.1)
-      | inr none ↦ bytes_missing new other (change.missing other differs none) ∙ sym (bytes_missing old other none)
-    ]
+other_bytes name other old new change differs = grind (arith, nat_tests, place_cases, place_low, place_named, bytes_found, bytes_missing)
 
 -- other bytes in a file change its name alone
 pub change-set : (files : List File) (i : ℕ) (bytes : List ℕ) → ChangesOne (file_at files i).0 files (set files i ((file_at files i).0, bytes))
-change-set files i bytes = record {
-  places = λ n j found. place-set files i bytes n ∙ found;
-  names = λ j low.
-      elim (cases_eq j i) [
-        | inl same ↦
-            ap (λ (k : ℕ). (file_at (set files i ((file_at files i).0, bytes)) k).0) same ∙
-            ap (λ (f : File). f.0) (get_or-set_same files i ((file_at files i).0, bytes) ([], []) (omega arith)) ∙
-            ap (λ (k : ℕ). (file_at files k).0) (sym same)
-        | inr other ↦ ap (λ (f : File). f.0) (get_or-set_other files i j _ _ other)
-      ];
-  others = λ j low differs. get_or-set_other files i j _ _ (λ same. differs (ap (λ (k : ℕ). (file_at files k).0) same));
-  missing = λ n differs none. place-set files i bytes n ∙ none;
-}
+change-set files i bytes = grind (arith, nat_tests, common_steps, place-set files i bytes)
 
 -- a file of a new name behind the others changes this name alone
 pub change-append : (files : List File) (name : Name) (bytes : List ℕ) → ChangesOne name files (files ++ (name, bytes) ∷ [])
-change-append files name bytes = record {
-  places = λ n j found. place-append files ((name, bytes) ∷ []) n j found;
-  names = λ j low. ap (λ (f : File). f.0) (get_or_append_left files _ _ j low);
-  others = λ j low differs. get_or_append_left files _ _ j low;
-  missing = λ n differs none. place_other files name n bytes differs ∙ none;
-}
+change-append files name bytes = grind (arith, nat_tests, place-append files ((name, bytes) ∷ []), get_or_append_left files, place_other files name)
 
 -- a name is emptied or made, and no other changes
 pub change_emptied : (files : List File) (name : Name) → ChangesOne name files (emptied files name)
@@ -184,5 +153,4 @@ puts_made shelf k n piece slot files calls at stands many longer passes after = 
 
 -- a slot that is open for writing stands at the end
 pub stands_at_end : (place : Place) → mode_of place ≡ Writing → place ≡ End
-stands_at_end (At next) is = cc
-stands_at_end End is = refl
+stands_at_end place is = grind (arith, nat_tests)

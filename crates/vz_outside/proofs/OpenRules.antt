@@ -3,15 +3,12 @@ use Rattle.std.proofs.Common.{◌≡◌, ℕ, false, Some, None, [], ◌∷◌, 
 use Rattle.std.specs.Option.{option_map_or}
 use Rattle.std.proofs.lemmas.Option.{none-some}
 use Rattle.vz_outside.proofs.Counting.{faultless_passes}
-use Rattle.vz_outside.proofs.Held.{open_slot}
-use Rattle.vz_outside.proofs.Places.{bytes_found, bytes_missing, place_named}
-use Rattle.vz_outside.proofs.Slots.{get-append, get_end}
+use Rattle.vz_outside.proofs.{Held.open_slot, Places.bytes_found, Places.bytes_missing, Places.place_named, Slots.get-append, Slots.get_end}
 use Rattle.vz_outside.proofs.Shelf_rules.{call_kept, failed_behaves, memory_behaves, ok_behaves, pushed_opened, pushed_slots, still_bytes, still_untouched}
 use Rattle.vz_outside.specs.InMemory.{InMemory, IsKept, Opens, after_call, after_fault, first_named, reading_from, shelved_of, slot_rest, with_slot}
-use Rattle.vz_outside.specs.Numbered.{is_failing}
+use Rattle.vz_outside.specs.{Numbered.is_failing, declared.shelf.ShelfError.TheVariants.Failed, declared.shelf.ShelfError.TheVariants.Memory}
 use Rattle.vz_outside.specs.Shelved.{Shelved, Name, Reading, Holds, IsMissing, IsOpened, KeepsBytes, IsUntouched, BehavesUnless}
 use Rattle.vz_outside.specs.declared.shelf.ShelfError.{ShelfError}
-use Rattle.vz_outside.specs.declared.shelf.ShelfError.TheVariants.{Failed, Memory}
 
 -- all that a shelf owes of an open
 pub record OpenRules (old new : Shelved) (name : Name) (result : Result ℕ ShelfError) : Type 0 where

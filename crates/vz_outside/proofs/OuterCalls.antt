@@ -1,16 +1,10 @@
 -- Laws on the files of the system: what the slots keep.
 use Rattle.std.proofs.Common.{◌≡◌, ℕ, zero, suc, ◌<◌, ◌≤◌, Option, Some, None, List, [], ◌∷◌, ◌++◌, Result, length, set, map, slice_get, get_or, refl, sym, subst, arith, ◌∙◌, ap}
-use Rattle.std.proofs.lemmas.Bool.{false≢true}
-use Rattle.std.proofs.lemmas.List.{map-append, map-set, length-map, get_or-set_same}
-use Rattle.std.proofs.lemmas.Option.{slice_get_within}
-use Rattle.std.proofs.Math.Seq.{map-set_same}
-use Rattle.vz_outside.proofs.Rises.{cause_least}
-use Rattle.vz_outside.proofs.Slots.{get-append}
-use Rattle.vz_outside.specs.Faults.{HasCause}
-use Rattle.vz_outside.specs.Outer.{Outer, handle_mode, outer_shelf}
-use Rattle.vz_outside.specs.Shelved.{Mode, IsCall, IsUntouched, BehavesUnless}
-use Rattle.vz_outside.specs.declared.real.Handle.{Handle}
-use Rattle.vz_outside.specs.declared.shelf.ShelfError.{ShelfError}
+use Rattle.std.proofs.{lemmas.Bool.false≢true, lemmas.List.map-append, lemmas.List.map-set, lemmas.List.length-map, lemmas.List.get_or-set_same}
+use Rattle.std.proofs.{lemmas.Option.slice_get_within, Math.Seq.map-set_same}
+use Rattle.vz_outside.proofs.{Rises.cause_least, Slots.get-append}
+use Rattle.vz_outside.specs.{Faults.HasCause, Outer.Outer, Outer.handle_mode, Outer.outer_shelf, declared.real.Handle.Handle}
+use Rattle.vz_outside.specs.{Shelved.Mode, Shelved.IsCall, Shelved.IsUntouched, Shelved.BehavesUnless, declared.shelf.ShelfError.ShelfError}
 
 -- a shelf by what its slots are open for and its count of faults: all that is said of it as a shelf
 abbrev seen : List Mode → ℕ → Outer

@@ -1,27 +1,14 @@
 -- Laws on the place of the first file of a name.
-use Rattle.std.proofs.Common.{◌≡◌, ℕ, zero, suc, ◌+◌, ◌<◌, nat_lt, not, ◌≢◌, inl, inr, Bool, true, false, Option, Some, None, Result, Ok, Err, OnErr, List, [], ◌∷◌, ◌++◌, length, set, Vec, String, string_bytes, refl, sym, ◌∙◌, ap, subst, arith, get_or, if◌then◌else◌}
-use Rattle.std.proofs.lemmas.List.{length-map, map-set, map-append, set-get_or}
-use Rattle.std.specs.Global.{Global}
-use Rattle.std.specs.List.{position, position_or_len}
-use Rattle.std.specs.Option.{option_map, option_map_or}
-use Rattle.std.specs.Str.{bytes_eq}
-use Rattle.std.proofs.lemmas.Bool.{cases_Bool, cases_lt, lt-ltb, le-ltb}
-use Rattle.std.proofs.lemmas.Option.{none-some, same_Some}
-use Rattle.std.proofs.lemmas.Slice.Eq.{bytes_eq-Decides}
+use Rattle.std.proofs.Common.{◌≡◌, ℕ, zero, suc, ◌+◌, ◌<◌, nat_lt, not, ◌≢◌, inl, inr, Bool, true, false, Option, Some, None, Result, OnErr, List, [], ◌∷◌, ◌++◌, length, set, Vec, String, string_bytes, refl, sym, ◌∙◌, ap, arith, get_or, if◌then◌else◌}
+use Rattle.std.proofs.{lemmas.List.length-map, lemmas.List.map-set, lemmas.List.map-append, lemmas.List.set-get_or, lemmas.Slice.Eq.bytes_eq-Decides}
+use Rattle.std.specs.{Global.Global, List.position, List.position_or_len, Option.option_map, Option.option_map_or, Str.bytes_eq}
+use Rattle.std.proofs.{lemmas.Bool.cases_lt, lemmas.Bool.lt-ltb, lemmas.Bool.le-ltb, lemmas.Option.none-some, lemmas.Bool.Decides.nat_tests}
 use Rattle.vz_outside.specs.InMemory.{File, bytes_in, emptied, extended, file_at, files_of, first_named}
 use Rattle.vz_outside.specs.Shelved.{Name}
 
 -- the place in a list, from whether its first element is meant and from the place in its tail
 abbrev step : Bool → Option ℕ → Option ℕ
 step first later = if first then Some 0 else option_map suc later
-
--- a place is that of the first element, or one more than that in the tail
-step_some :
-    {P : Type 0} (first : Bool) (later : Option ℕ) (i : ℕ) → step first later ≡ Some i →
-    (first ≡ true → i ≡ 0 → P) → ((j : ℕ) → later ≡ Some j → i ≡ suc j → P) → P
-step_some true later i found here there = here refl (sym (same_Some 0 i found))
-step_some false None i found here there = absurd (none-some i found)
-step_some false (Some j) i found here there = there j refl (sym (same_Some (suc j) i found))
 
 -- there is no place where neither the first element is meant nor one of the tail
 step_none : (first : Bool) (later : Option ℕ) → step first later ≡ None → (first ≡ false) × (later ≡ None)
@@ -31,25 +18,19 @@ step_none false (Some j) none = absurd (none-some (suc j) (sym none))
 
 -- two names that differ are told apart
 told_apart : (a b : Name) → b ≢ a → bytes_eq a b ≡ false
-told_apart a b differs =
-    elim (cases_Bool (bytes_eq a b)) [ inl same ↦ absurd (differs (sym ((bytes_eq-Decides a b).0 same))) | inr other ↦ other ]
+told_apart a b differs = grind (arith, nat_tests, bytes_eq-Decides a b)
 
 -- a place is within the list
 pub place_low : (files : List File) (name : Name) (i : ℕ) → first_named files name ≡ Some i → i < length files
 unfolding first_named
 place_low [] name i found = absurd (none-some i found)
-place_low (file ∷ files) name i found =
-    step_some (bytes_eq file.0 name) (first_named files name) i found (λ hit first. omega arith)
-    (λ j later is. let low = place_low files name j later in omega arith)
+place_low (file ∷ files) name i found = grind (arith, nat_tests, place_low files name)
 
 -- the file at a name's place has that name
 pub place_named : (files : List File) (name : Name) (i : ℕ) → first_named files name ≡ Some i → (file_at files i).0 ≡ name
 unfolding first_named
 place_named [] name i found = absurd (none-some i found)
-place_named (file ∷ files) name i found =
-    step_some (bytes_eq file.0 name) (first_named files name) i found
-    (λ hit first. subst (λ (k : ℕ). (file_at (file ∷ files) k).0 ≡ name) (sym first) ((bytes_eq-Decides file.0 name).0 hit))
-    (λ j later is. subst (λ (k : ℕ). (file_at (file ∷ files) k).0 ≡ name) (sym is) (place_named files name j later))
+place_named (file ∷ files) name i found = grind (arith, nat_tests, bytes_eq-Decides file.0 name, place_named files name)
 
 -- other bytes in a file change no place
 pub place-set :
@@ -64,11 +45,7 @@ place-set (file ∷ files) (suc i) bytes name = ap (λ (later : Option ℕ). ste
 pub place-append : (files more : List File) (name : Name) (i : ℕ) → first_named files name ≡ Some i → first_named (files ++ more) name ≡ Some i
 unfolding first_named
 place-append [] more name i found = absurd (none-some i found)
-place-append (file ∷ files) more name i found =
-    step_some (bytes_eq file.0 name) (first_named files name) i found
-    (λ hit first. ap (λ (b : Bool). step b (first_named (files ++ more) name)) hit ∙ ap Some (sym first))
-    (λ j later is.
-    ap (λ (rest : Option ℕ). step (bytes_eq file.0 name) rest) (place-append files more name j later ∙ sym later) ∙ found)
+place-append (file ∷ files) more name i found = grind (arith, nat_tests, place-append files more name)
 
 -- a file behind is the first of a name that was not there
 pub place_new :
@@ -219,13 +196,11 @@ emptied_there files name i found =
 
 -- the files with the first of a name made, where it is not there
 pub emptied_new : (files : List File) (name : Name) → first_named files name ≡ None → emptied files name ≡ files ++ (name, []) ∷ []
-emptied_new files name none =
-    ap (λ (place : Option ℕ). option_map_or (λ p. set files p (name, [])) place (files ++ (name, []) ∷ [])) none
+emptied_new files name none = grind (arith, nat_tests)
 
 -- a fact holds at an error where it holds
 pub on_err : {T E P : Type 0} (r : Result T E) → P → OnErr r P
-on_err (Ok x) p = tt
-on_err (Err e) p = p
+on_err r p = grind (arith, nat_tests)
 
 -- what was found among files as a program holds them
 pub found_there :

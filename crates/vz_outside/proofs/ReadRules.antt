@@ -1,16 +1,12 @@
 -- Rules of reading from a shelf in memory.
 use Rattle.std.proofs.Common.{◌≡◌, ℕ, ◌+◌, ◌-◌, min, ◌<◌, ◌≤◌, Some, List, [], ◌++◌, length, set, take, drop, slice_get, Result, Ok, Err, IfOk, OnErr, inl, inr, refl, sym, ◌∙◌, ap, subst, arith}
 use Rattle.std.specs.Option.{option_map_or}
-use Rattle.std.proofs.lemmas.Bool.{cases_eq}
-use Rattle.std.proofs.lemmas.List.{drop_all}
-use Rattle.std.proofs.lemmas.Option.{same_Some, slice_get_within}
+use Rattle.std.proofs.{lemmas.Bool.cases_eq, lemmas.List.drop_all, lemmas.Option.same_Some, lemmas.Option.slice_get_within}
 use Rattle.vz_outside.proofs.Slots.{get-set_other, get-set_same}
 use Rattle.vz_outside.proofs.Shelf_rules.{KeepsSlot, same_slot, call_kept, ok_behaves, stopped_behaves, stopped_untouched}
 use Rattle.vz_outside.specs.InMemory.{InMemory, IsKept, Reads, Stops, file_at, mode_of, reading_from, shelved_of, slot_rest}
-use Rattle.vz_outside.specs.Numbered.{after_one_call}
+use Rattle.vz_outside.specs.{Numbered.after_one_call, declared.memory.Slot.Slot, declared.shelf.ShelfError.ShelfError}
 use Rattle.vz_outside.specs.Shelved.{Shelved, Consumes, IsAtEnd, ReadsOnly, IsUntouched, Behaves}
-use Rattle.vz_outside.specs.declared.memory.Slot.{Slot}
-use Rattle.vz_outside.specs.declared.shelf.ShelfError.{ShelfError}
 
 -- all that a shelf owes of a read of a slot to a piece with room for so many bytes
 pub record ReadRules (old new : Shelved) (slot room : ℕ) (piece : List ℕ) (result : Result ℕ ShelfError) : Type 0 where

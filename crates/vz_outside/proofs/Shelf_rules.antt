@@ -1,17 +1,14 @@
 -- Rules of the calls of a shelf in memory: what stands still, and what the slots keep.
 use Rattle.std.proofs.Common.{◌≡◌, ℕ, ◌<◌, ◌≤◌, Some, List, [], ◌∷◌, ◌++◌, length, slice_get, IsTrue, Ok, Err, refl, sym, ◌∙◌, ap, subst, arith}
 use Rattle.std.specs.Option.{option_map, option_map_or}
-use Rattle.std.proofs.lemmas.Option.{slice_get_past}
-use Rattle.vz_outside.proofs.Counting.{faultless_counted, faultless_not_failing}
+use Rattle.std.proofs.{lemmas.Option.slice_get_past, lemmas.Bool.Decides.nat_tests}
+use Rattle.vz_outside.proofs.{Counting.faultless_counted, Counting.faultless_not_failing, Slots.get-append, Slots.get_end}
 use Rattle.vz_outside.proofs.Held.{open_slot, slot_low}
 use Rattle.vz_outside.proofs.Rises.{cause_of_failed, cause_of_memory, cause_of_ok, memory_not_failed, ok_not_failed, one_more_least}
-use Rattle.vz_outside.proofs.Slots.{get-append, get_end}
 use Rattle.vz_outside.specs.InMemory.{InMemory, IsKept, Stops, after_call, after_fault, file_at, mode_of, shelved_of, slot_name}
-use Rattle.vz_outside.specs.Numbered.{Numbered, after_one_call, is_faultless}
-use Rattle.vz_outside.specs.Shelved.{Name, Mode, IsCall, IsOpened, KeepsBytes, IsUntouched, StaysFaultless, Behaves, BehavesUnless}
-use Rattle.vz_outside.specs.declared.memory.Slot.{Slot}
-use Rattle.vz_outside.specs.declared.shelf.ShelfError.{ShelfError}
-use Rattle.vz_outside.specs.declared.shelf.ShelfError.TheVariants.{Failed, Memory}
+use Rattle.vz_outside.specs.{Numbered.Numbered, Numbered.after_one_call, Numbered.is_faultless, declared.shelf.ShelfError.ShelfError}
+use Rattle.vz_outside.specs.Shelved.{Name, IsCall, IsOpened, KeepsBytes, IsUntouched, StaysFaultless, Behaves, BehavesUnless}
+use Rattle.vz_outside.specs.{declared.memory.Slot.Slot, declared.shelf.ShelfError.TheVariants.Failed, declared.shelf.ShelfError.TheVariants.Memory}
 
 -- where calls alone change, nothing else does
 pub still_bytes : (shelf : InMemory) (calls : Numbered) → KeepsBytes (shelved_of shelf) (shelved_of (record shelf { calls = calls }))
@@ -21,19 +18,11 @@ pub still_untouched : (shelf : InMemory) (calls : Numbered) → IsUntouched (she
 still_untouched shelf calls = record { slots = λ slot. refl; bytes = still_bytes shelf calls }
 
 pub still_call : (shelf : InMemory) (calls : Numbered) → shelf.calls.faults ≤ calls.faults → IsCall (shelved_of shelf) (shelved_of (record shelf { calls = calls }))
-still_call shelf calls more = record {
-  slots = λ slot mode is. is;
-  names = λ told slot mode is. refl;
-  known = refl;
-  faults = more;
-}
+still_call shelf calls more = grind (arith, nat_tests)
 
 -- a faultless shelf whose calls are counted on is faultless
 counted_stays : (old new : InMemory) → new.calls ≡ after_one_call old.calls → IsTrue (is_faultless old.calls) → StaysFaultless (shelved_of old) (shelved_of new)
-counted_stays old new after faultless = record {
-  faultless = subst (λ (calls : Numbered). IsTrue (is_faultless calls)) (sym after) (faultless_counted old.calls faultless);
-  faults = ap (λ (calls : Numbered). calls.faults) after;
-}
+counted_stays old new after faultless = grind (arith, nat_tests, faultless_counted old.calls faultless)
 
 -- a call that answers behaves
 pub ok_behaves :
@@ -69,10 +58,7 @@ failed_behaves reason shelf because = record {
 
 -- what a call leaves that stops before its work
 pub stopped_untouched : (error : ShelfError) (old new : InMemory) → Stops old error new → IsUntouched (shelved_of old) (shelved_of new)
-stopped_untouched Failed old new stops =
-    subst (λ (m : InMemory). IsUntouched (shelved_of old) (shelved_of m)) (sym stops.1) (still_untouched old (after_fault old).calls)
-stopped_untouched Memory old new stops =
-    subst (λ (m : InMemory). IsUntouched (shelved_of old) (shelved_of m)) (sym stops.1) (still_untouched old (after_call old).calls)
+stopped_untouched error old new stops = grind (arith, nat_tests, still_untouched old (after_fault old).calls, still_untouched old (after_call old).calls)
 
 -- and it behaves
 pub stopped_behaves :
@@ -100,21 +86,7 @@ pub record KeepsSlots (old new : InMemory) : Type 0 where
 
 -- such a call keeps the slots and their names
 pub call_kept : (old new : InMemory) → IsKept old → KeepsSlots old new → IsCall (shelved_of old) (shelved_of new)
-call_kept old new kept keeps = record {
-  slots = λ k mode is.
-      let was = open_slot old.slots k mode is in
-      let now = keeps.slots k was.0 was.1 in
-      ap (λ o. option_map (λ (slot : Slot). mode_of slot.place) o) now.1 ∙ ap (λ (m : Mode). Some m) (now.2.mode ∙ was.2);
-  names = λ told k mode is.
-      let was = open_slot old.slots k mode is in
-      let now = keeps.slots k was.0 was.1 in
-      ap (λ o. option_map_or (slot_name new.files) o []) now.1 ∙
-      ap (λ (i : ℕ). (file_at new.files i).0) now.2.file ∙
-      keeps.names was.0.file (slot_low old k was.0 kept was.1) ∙
-      sym (ap (λ o. option_map_or (slot_name old.files) o []) was.1);
-  known = refl;
-  faults = keeps.faults;
-}
+call_kept old new kept keeps = grind (arith, nat_tests, open_slot old.slots, slot_low old)
 
 -- one more slot leaves the others
 pub pushed_slots :

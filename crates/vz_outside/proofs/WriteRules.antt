@@ -1,14 +1,12 @@
 -- Rules of writing to a shelf in memory.
 use Rattle.std.proofs.Common.{◌≡◌, ◌≢◌, ℕ, min, ◌<◌, ◌≤◌, Some, Option, List, [], ◌++◌, length, take, slice_get, Result, Ok, Err, IfOk, OnErr, refl, sym, ◌∙◌, ap, subst, arith, get_or-set_same}
 use Rattle.std.specs.Option.{option_map_or}
-use Rattle.vz_outside.proofs.Calls.{kept_of_untouched}
+use Rattle.vz_outside.proofs.{Calls.kept_of_untouched, Places.bytes_found}
 use Rattle.vz_outside.proofs.Held.{ChangesOne, change-set, open_slot, other_bytes, slot_low}
-use Rattle.vz_outside.proofs.Places.{bytes_found}
 use Rattle.vz_outside.proofs.Shelf_rules.{same_slot, call_kept, ok_behaves, stopped_behaves, stopped_untouched}
 use Rattle.vz_outside.specs.InMemory.{File, InMemory, IsKept, Stops, Writes, extended, file_at, first_named, shelved_of, slot_name, slot_rest, unread, writing_to}
-use Rattle.vz_outside.specs.Numbered.{after_one_call}
+use Rattle.vz_outside.specs.{Numbered.after_one_call, declared.shelf.ShelfError.ShelfError}
 use Rattle.vz_outside.specs.Shelved.{Shelved, Name, Appends, KeepsOthers, IsUntouched, Behaves, with_more}
-use Rattle.vz_outside.specs.declared.shelf.ShelfError.{ShelfError}
 
 -- all that a shelf owes of a write of a piece to a slot
 pub record WriteRules (old new : Shelved) (slot : ℕ) (piece : List ℕ) (result : Result ℕ ShelfError) : Type 0 where

@@ -1,5 +1,5 @@
 -- A player goes on by an event.
-use Rattle.std.proofs.Common.{◌≡◌, ℕ, Bool, true, false, Option, List, [], ◌∷◌, ◌++◌, map, length, refl, sym, ap, subst, ◌∙◌, ◌+◌, add-zero, arith}
+use Rattle.std.proofs.Common.{◌≡◌, ℕ, Bool, true, false, Option, List, [], ◌∷◌, ◌++◌, map, refl, sym, ap, subst, ◌∙◌, ◌+◌, add-zero, arith}
 use Rattle.std.specs.Prelude.{IsSome, IfSome}
 use Rattle.std.specs.List.{flat_map}
 use Rattle.std.proofs.lemmas.List.{map-append}
@@ -39,11 +39,6 @@ events_more old new v events is so_far =
     ap (λ (p : Played). map (λ (e : Entry). e.event) p.history) is
     ∙ (map-append (λ (e : Entry). e.event) old.history (next_entry old v ∷ [])
     ∙ (ap (λ x. map (λ (e : Entry). e.event) old.history ++ x ∷ []) (event_is old.plan _ v) ∙ ap (λ l. l ++ v ∷ []) so_far))
-
--- nothing was drawn
-pub frames_stay : (old new : Played) (b : Bool) (bytes : List ℕ) → b ≡ false → Writes old new b → bytes ≡ frames_bytes (frames_of old) → bytes ≡ frames_bytes (frames_of new)
-frames_stay old new true bytes none writes before = absurd (cc)
-frames_stay old new false bytes none writes before = before ∙ ap frames_bytes (sym writes)
 
 -- a frame was drawn, so the display shows one
 pub is_shown : (old new : Played) (b : Bool) (d : Displayed) → b ≡ true → Writes old new b

@@ -7,7 +7,6 @@ pub mod Adding
 mod Logging
 pub mod Growing
 pub mod Taking
-pub mod In_turn
 pub mod Outs
 mod Bytes
 mod Going

@@ -1,26 +1,22 @@
 -- What stands as a log is made and written in pieces.
-use Rattle.std.proofs.Common.{◌≡◌, ℕ, ◌+◌, ◌<◌, ◌≤◌, List, [], ◌∷◌, ◌++◌, length, take, drop, get_or, Some, refl, sym, ap, subst, ◌∙◌, arith, append_assoc, append-nil, take_all, codes}
+use Rattle.std.proofs.Common.{◌≡◌, ℕ, ◌+◌, ◌<◌, ◌≤◌, List, [], ◌∷◌, ◌++◌, length, take, drop, get_or, refl, sym, ap, subst, ◌∙◌, arith, append_assoc, append-nil, take_all, codes}
 use Rattle.std.specs.List.{flat_map}
 use Rattle.std.proofs.lemmas.Grind.{flat_map-append}
 use Rattle.std.proofs.lemmas.List.{take_more, take-append-drop}
 use Rattle.std.proofs.lemmas.List.Concat.{flat_map-cons}
-use Rattle.vz_outside.specs.Shelved.{Shelved, Writing, Appends, AppendsFront, KeepsOthers}
+use Rattle.vz_outside.specs.Shelved.{Shelved, Appends, AppendsFront, KeepsOthers}
 use Rattle.vz_outside.proofs.Calls.{Ran, append_nothing}
 use Rattle.vz_rules.specs.declared.entry.Entry.{Entry}
 use Rattle.vz_rules.specs.declared.entry.Rest.{Rest}
 use Rattle.vz_rules.specs.Log.{log_text, entry_text, held_text, open_text}
 use Rattle.vz_player.specs.Written.{AppendsPart}
-use Rattle.vz_player.proofs.Adding.{HasAdded, none_added, more_added, front_added}
+use Rattle.vz_player.proofs.Adding.{HasAdded, more_added, front_added}
 
 -- so much of a log was made: a part of it was written, and the rest is left in the text
 pub record HasMade (made left : List ℕ) (slot : ℕ) (old new : Shelved) : Type 0 where
   pub part : List ℕ
   pub made_is : made ≡ part ++ left
   pub added : HasAdded part slot old new
-
--- nothing is made before the first line
-pub none_made : (left : List ℕ) (slot : ℕ) (s : Shelved) → left ≡ [] → s.mode slot ≡ Some Writing → HasMade [] left slot s s
-none_made left slot s none opened = record { part = []; made_is = sym none; added = none_added slot s opened }
 
 module _ (made left : List ℕ) (slot : ℕ) (a b : Shelved) (before : HasMade made left slot a b) where
   -- more was made
@@ -120,10 +116,6 @@ log_begun h g n rest same left slot a b c before begun =
 pub made_begun :
     (all left : List ℕ) (slot : ℕ) (a b c : Shelved) → HasMade all left slot a b → AppendsFront left (b.name slot) b c → AppendsFront all (a.name slot) a c
 made_begun all left slot a b c before begun = piece_stopped all left slot a b before [] all c begun (sym (append-nil all))
-
--- no call wrote a front part of anything
-pub none_stopped : (all : List ℕ) (slot : ℕ) (s : Shelved) → AppendsFront all (s.name slot) s s
-none_stopped all slot s told = (0, omega arith, append_nothing (s.name slot) s told)
 
 -- nothing is a part that leaves all
 pub none_moved : (all : List ℕ) (slot : ℕ) (s : Shelved) → AppendsPart all all (s.name slot) s s

@@ -2,13 +2,9 @@
 use Rattle.std.proofs.Math.Seq.{take-append-add}
 use Rattle.std.proofs.Common.{◌≡◌, ◌≢◌, ℕ, zero, suc, ◌+◌, List, [], ◌∷◌, ◌++◌, length, take, Option, Some, IsTrue, Ok, inl, inr, refl, sym, ap, subst, ◌∙◌, take_all, arith}
 use Rattle.vz_outside.specs.Shelved.{Shelved, Name, Writing, IsCall, KeepsOthers, Appends, AppendsFront, Behaves, with_more}
-use Rattle.vz_outside.proofs.Calls.{Ran, ran_one, ran_then_ran, known_after, call_then_call}
-use Rattle.vz_rules.specs.Frames.{frames_bytes}
-use Rattle.vz_player.specs.Played.{Played, frames_of}
+use Rattle.vz_outside.proofs.Calls.{Ran, ran_one, ran_then_ran, known_after}
 use Rattle.vz_player.specs.Written.{Output, HasFront, KeepsAllBut, WritesAll, WritesSome, IsOut}
-use Rattle.vz_player.specs.Taken.{AddsFrames, AddsFramesFront}
 use Rattle.vz_player.specs.declared.outputs.Outputs.{Outputs}
-use Rattle.vz_player.proofs.Growing.{frames_then_frames}
 
 -- the two files, with what they are to hold
 abbrev pub both : Name → Name → List ℕ → List ℕ → List Output
@@ -41,14 +37,6 @@ out_more name slot held more a b out call added = record {
       let P : Name → Type 0 = λ n. b.bytes n ≡ with_more (a.bytes n) more in
       subst P (out.named before) (added before) ∙ ap (λ (o : Option (List ℕ)). with_more o more) (out.holds before));
 }
-
--- the frames that a player writes are out, and then those that it writes later
-pub frames_out :
-    (name : Name) (slot : ℕ) (old new : Played) (a b : Shelved) →
-    IsOut name slot (frames_bytes (frames_of old)) a → IsCall a b → AddsFrames old new (a.name slot) a b → IsOut name slot (frames_bytes (frames_of new)) b
-frames_out name slot old new a b out call adds =
-    subst (λ (l : List ℕ). IsOut name slot l b) (sym (ap frames_bytes adds.1 ∙ frames_then_frames (frames_of old) adds.0))
-    (out_more name slot (frames_bytes (frames_of old)) (frames_bytes adds.0) a b out call adds.2)
 
 -- the others of a slot's name are those of the file's name
 pub others_named :
@@ -112,27 +100,9 @@ none_made frames log drawn text a b no_frames no_log others =
     record { begun = inr (front_of_nothing frames drawn a b no_frames, (no_log, tt)); others = others }
 
 module _ (frames log : Name) (apart : frames ≢ log) (outputs : Outputs) (a b c : Shelved) where
-  -- the frames are written, and every name but the two stays
-  all_but_frames : IsCall a b → KeepsAllBut (frames ∷ log ∷ []) a b → KeepsOthers frames b c → KeepsAllBut (frames ∷ log ∷ []) a c
-  all_but_frames call kept then told name other = then.files (known_after a b call told) name other.0 ∙ kept told name other
-
   -- the log is
   all_but_log : IsCall a b → KeepsAllBut (frames ∷ log ∷ []) a b → KeepsOthers log b c → KeepsAllBut (frames ∷ log ∷ []) a c
   all_but_log call kept then told name other = then.files (known_after a b call told) name other.1.0 ∙ kept told name other
-
-  -- frames more are written
-  pub frames_stand :
-      (old new : Played) → Stands frames log outputs (frames_bytes (frames_of old)) [] a b → AddsFrames old new (b.name outputs.frames) b c →
-      KeepsOthers (b.name outputs.frames) b c → Ran b c → Stands frames log outputs (frames_bytes (frames_of new)) [] a c
-  frames_stand old new before adds kept ran =
-      let held = frames_bytes (frames_of old) in
-      let named = others_named frames outputs.frames held b c before.frames_are kept in
-      record {
-        ran = ran_then_ran a b c before.ran ran;
-        frames_are = frames_out frames outputs.frames old new b c before.frames_are ran.call adds;
-        log_is = out_kept log frames outputs.log [] b c before.log_is ran.call (λ same. apart (sym same)) named;
-        others = all_but_frames before.ran.call before.others named;
-      }
 
   -- the log is written
   pub log_stands :
@@ -145,23 +115,6 @@ module _ (frames log : Name) (apart : frames ≢ log) (outputs : Outputs) (a b c
         frames_are = out_kept frames log outputs.frames drawn b c before.frames_are ran.call apart named;
         log_is = out_more log outputs.log [] text b c before.log_is ran.call added;
         others = all_but_log before.ran.call before.others named;
-      }
-
-  -- the writing of the frames was cut short
-  pub frames_cut :
-      (old new : Played) (text : List ℕ) → Stands frames log outputs (frames_bytes (frames_of old)) [] a b → AddsFramesFront old new (b.name outputs.frames) b c →
-      KeepsOthers (b.name outputs.frames) b c → IsCall b c → WritesSome (both frames log (frames_bytes (frames_of new)) text) a c
-  frames_cut old new text before adds kept call =
-      let held = frames_bytes (frames_of old) in
-      let named = others_named frames outputs.frames held b c before.frames_are kept in
-      let log_is = out_kept log frames outputs.log [] b c before.log_is call (λ same. apart (sym same)) named in
-      record {
-        begun = inr (
-          front_of_begun frames outputs.frames held (frames_bytes adds.0) (frames_bytes (frames_of new)) a b c before.frames_are before.ran.call adds.2
-              (ap frames_bytes adds.1 ∙ frames_then_frames (frames_of old) adds.0),
-          (front_of_out log outputs.log 0 [] [] a c log_is refl (call_then_call a b c before.ran.call call), tt),
-        );
-        others = all_but_frames before.ran.call before.others named;
       }
 
   -- or that of the log
@@ -177,16 +130,6 @@ module _ (frames log : Name) (apart : frames ≢ log) (outputs : Outputs) (a b c
       }
 
 module _ (frames log : Name) (outputs : Outputs) (drawn : List ℕ) (a b : Shelved) where
-  -- what stands is begun, as long as the log is empty
-  pub stands_begun : (n : ℕ) (all text : List ℕ) → Stands frames log outputs drawn [] a b → drawn ≡ take n all → WritesSome (both frames log all text) a b
-  stands_begun n all text stands is = record {
-    begun = inr (
-      front_of_out frames outputs.frames n drawn all a b stands.frames_are is stands.ran.call,
-      (front_of_out log outputs.log 0 [] [] a b stands.log_is refl stands.ran.call, tt),
-    );
-    others = stands.others;
-  }
-
   -- and whole at the end
   pub stands_whole : (text : List ℕ) → Stands frames log outputs drawn text a b → WritesAll (both frames log drawn text) a b
   stands_whole text stands = record { whole = (stands.frames_are.holds, (stands.log_is.holds, tt)); others = stands.others }

@@ -210,3 +210,44 @@ resumed_is m d h count behind legal files sides some shown = record {
   some = some;
   shows = λ t. shown;
 }
+
+pub unturned :
+    {old : Played} {h g : List Entry} {count : ℕ} {s : Bool} (m n : Machine) (v : Event) → record { plan = m.plan; history = h; buffers = count; stopped = s } ≡ old → n ≡ m
+    → g ≡ h → StopsAt old v (record { plan = n.plan; history = g; buffers = count; stopped = s })
+unturned {old = old} {h = h} {g = g} {count = count} {s = s} m n v at same all = stops_before old _ v (same_played m n h g count s old at same all)
+
+-- A turn of a player, as its code makes it
+
+module _
+    {d : Displayed} {old : Played} {e : Entry} {h g k : List Entry} {count : ℕ} {s : Bool} (m n : Machine) (v : Event) (o : Option Pictured)
+    (at : record { plan = m.plan; history = h; buffers = count; stopped = s } ≡ old)
+    (stands : IsPlayed m d (record { plan = m.plan; history = h; buffers = count; stopped = s }))
+    (entry : e ≡ entry_in m.plan m.world v) (goes : Goes m v n) (shows : ShowsDrawn m e.reply o) (same : g ≡ h) (more : k ≡ g ++ e ∷ [])
+    (going : old.stopped ≡ false)
+  where
+    stood : IsPlayed m d old
+    stood = subst (IsPlayed m d) at stands
+
+    turned : (t : Bool) → record { plan = n.plan; history = k; buffers = count; stopped = t } ≡ record (played_on old v) { stopped = t }
+    turned t = new_is m n d old v e g k count t stood entry goes (same ∙ ap (λ (p : Played). p.history) at) more (ap (λ (p : Played). p.buffers) at)
+
+    pub turn_invariant :
+        NamesClient old.plan v → (d' : Displayed) (t : Bool) → (t ≡ false → d' ≡ shown_with d o)
+        → IsPlayed n d' (record { plan = n.plan; history = k; buffers = count; stopped = t })
+    turn_invariant named d' t shown = played_is m n d d' old _ v e o t stood named entry goes shows going shown (turned t)
+
+    -- it was stopped
+    pub turn_stops : StopsAt old v (record { plan = n.plan; history = k; buffers = count; stopped = true })
+    turn_stops = stops_after old _ v (turned true)
+
+    module _ (t : Bool) (off : t ≡ false) where
+      pub turn_taken : record { plan = n.plan; history = k; buffers = count; stopped = t } ≡ played_on old v
+      turn_taken = going_is old _ v going (turned t ∙ ap (λ (b : Bool). record (played_on old v) { stopped = b }) off)
+
+      pub turn_written : (b : Bool) → b ≡ is_some o → Writes old (record { plan = n.plan; history = k; buffers = count; stopped = t }) b
+      turn_written b drawn = writes_is m d old _ v e o b stood entry shows drawn turn_taken
+
+      pub turn_counted :
+          (before after : ℕ) → after ≡ before + steps_with d o
+          → after + painted_by old ≡ before + painted_by (record { plan = n.plan; history = k; buffers = count; stopped = t })
+      turn_counted before after counted = counted_is m d old _ v e o before after stood entry shows going counted turn_taken

@@ -113,12 +113,6 @@ opening_tested m h q starts files on none =
     }
     )
 
--- nothing has changed
-pub same_tested : (m n : Machine) (h g : List Entry) (q : Point) (old : Tested) → record { plan = m.plan; history = h; point = q } ≡ old → n ≡ m → g ≡ h → record { plan = n.plan; history = g; point = q } ≡ old
-same_tested m n h g q old is same all =
-    ap (λ (x : Machine). record { plan = x.plan; history = g; point = q }) same
-    ∙ (ap (λ (l : List Entry). record { plan = m.plan; history = l; point = q }) all ∙ is)
-
 -- what a hit tester becomes
 pub on_is : (m n : Machine) (noted : Target) (old : Tested) (v : Event) (e : Entry) (h kept g : List Entry) (q : Point) → IsTested m noted old → e ≡ entry_in m.plan m.world v → Goes m v n
     → record { plan = m.plan; history = h; point = q } ≡ old → kept ≡ h → g ≡ kept ++ e ∷ [] → record { plan = n.plan; history = g; point = q } ≡ tested_on old v

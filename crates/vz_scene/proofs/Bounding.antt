@@ -1,22 +1,16 @@
 -- The smallest rectangle round some in reach, and the damages of frames from one on.
-use Rattle.std.proofs.Common.{◌≡◌, ℕ, ℤ, pos, ◌+◌, ◌+ℤ◌, ◌-ℤ◌, ◌<◌, ◌≤◌, int_lt, Bool, true, false, cond, ◌||◌, List, ◌∷◌, map, filter, drop, length, get_or, sym, ap, ◌∙◌, arith, if◌then◌else◌}
+use Rattle.std.proofs.Common.{◌≡◌, ℕ, ℤ, ◌+◌, ◌+ℤ◌, ◌-ℤ◌, ◌<◌, ◌≤◌, true, List, map, filter, drop, length, get_or, sym, ap, arith}
 use Rattle.std.specs.Int.{int_min, int_max}
-use Rattle.std.proofs.lemmas.Int.{ints, clamps}
-use Rattle.std.proofs.lemmas.List.{drop_all, drop_more}
-use Rattle.vz_geom.specs.Rectangle.{Rectangle, is_empty_rect, no_rectangle, with_sides, hull, join, bound}
+use Rattle.std.proofs.{lemmas.Int.ints, lemmas.Int.clamps, lemmas.List.drop_all, lemmas.List.drop_more, lemmas.Bool.Decides.nat_tests}
+use Rattle.vz_geom.specs.Rectangle.{Rectangle, no_rectangle, with_sides, hull, join, bound}
 use Rattle.vz_frame.specs.Frame.{root_damage}
-use Rattle.vz_rules.specs.World.{FrameData}
-use Rattle.vz_rules.specs.Damage.{is_between}
+use Rattle.vz_rules.specs.{World.FrameData, Damage.is_between}
 use Rattle.vz_placement.specs.Limits.{IsInReach}
 use Rattle.vz_placement.proofs.Sides.{nothing_in_reach}
 
 sides_in_reach : (x y w h : ℤ) → IsInReach (record { x = x; y = y; w = w; h = h }) → IsInReach (with_sides x y w h)
 unfolding with_sides
-sides_in_reach x y w h is = by_test (int_lt w (pos 1) || int_lt h (pos 1))
-  where
-    by_test : (t : Bool) → IsInReach (if t then no_rectangle else record { x = x; y = y; w = w; h = h })
-    by_test true = nothing_in_reach
-    by_test false = is
+sides_in_reach x y w h is = grind (arith, nat_tests, nothing_in_reach)
 
 hull_in_reach : (a b : Rectangle) → IsInReach a → IsInReach b → IsInReach (hull a b)
 unfolding hull
@@ -37,12 +31,7 @@ hull_in_reach a b p q =
 -- the smallest rectangle round two in reach
 pub join_in_reach : (a b : Rectangle) → IsInReach a → IsInReach b → IsInReach (join a b)
 unfolding join
-join_in_reach a b p q = by_tests (is_empty_rect a) (is_empty_rect b)
-  where
-    by_tests : (s t : Bool) → IsInReach (if s then b else (if t then a else hull a b))
-    by_tests true t = q
-    by_tests false true = p
-    by_tests false false = hull_in_reach a b p q
+join_in_reach a b p q = grind (arith, nat_tests, hull_in_reach a b p q)
 
 -- the damages of those frames from a place on that are between
 abbrev pub damages_from : ℕ → FrameData → List FrameData → ℕ → List Rectangle
@@ -52,23 +41,7 @@ damages_from from i accepted k = map (λ (j : FrameData). root_damage j.frame) (
 pub damages_step : (from : ℕ) (i : FrameData) (accepted : List FrameData) (k m : ℕ) (d : FrameData) (best new r : Rectangle) → m + 1 ≡ k → m < length accepted → is_between from i (get_or accepted m d) ≡ true
     → best ≡ bound (damages_from from i accepted k) → r ≡ root_damage (get_or accepted m d).frame → new ≡ join r best → new ≡ bound (damages_from from i accepted m)
 unfolding bound
-damages_step from i accepted k m d best new r e h between was damage is =
-    let j = get_or accepted m d in
-    let front : drop m accepted ≡ j ∷ drop k accepted = drop_more accepted m d h ∙ ap (λ n. j ∷ drop n accepted) e in
-    let chosen : filter (is_between from i) (j ∷ drop k accepted) ≡ j ∷ filter (is_between from i) (drop k accepted) =
-    ap (λ t. cond t (j ∷ filter (is_between from i) (drop k accepted)) (filter (is_between from i) (drop k accepted))) between in
-    let all : damages_from from i accepted m ≡ root_damage j.frame ∷ damages_from from i accepted k = ap (λ l. map (λ (j : FrameData). root_damage j.frame) l) (ap (filter (is_between from i)) front ∙ chosen) in
-    is ∙ (ap (λ x. join x best) damage ∙ (ap (join (root_damage j.frame)) was ∙ sym (ap bound all)))
-
--- one that is not
-pub damages_skip : (from : ℕ) (i : FrameData) (accepted : List FrameData) (k m : ℕ) (d : FrameData) (best : Rectangle) → m + 1 ≡ k → m < length accepted → is_between from i (get_or accepted m d) ≡ false
-    → best ≡ bound (damages_from from i accepted k) → best ≡ bound (damages_from from i accepted m)
-damages_skip from i accepted k m d best e h between was =
-    let j = get_or accepted m d in
-    let front : drop m accepted ≡ j ∷ drop k accepted = drop_more accepted m d h ∙ ap (λ n. j ∷ drop n accepted) e in
-    let chosen : filter (is_between from i) (j ∷ drop k accepted) ≡ filter (is_between from i) (drop k accepted) =
-    ap (λ t. cond t (j ∷ filter (is_between from i) (drop k accepted)) (filter (is_between from i) (drop k accepted))) between in
-    was ∙ sym (ap (λ l. bound (map (λ (j : FrameData). root_damage j.frame) l)) (ap (filter (is_between from i)) front ∙ chosen))
+damages_step from i accepted k m d best new r e h between was damage is = grind (arith, nat_tests, drop_more accepted m d h)
 
 -- behind the last there is none
 pub damages_none : (from : ℕ) (i : FrameData) (accepted : List FrameData) (k : ℕ) → length accepted ≤ k → no_rectangle ≡ bound (damages_from from i accepted k)

@@ -1,35 +1,20 @@
 -- Chains of frames, and maps of groups.
-use Rattle.std.proofs.Common.{◌≡◌, ℕ, ◌+◌, ◌-◌, ◌<◌, ◌≤◌, ◌⊎◌, inl, inr, Bool, true, false, ◌&&◌, ◌==◌, cond, Option, Some, None, List, [], ◌∷◌, ◌++◌, map, filter, take, length, get_or, slice_get, refl, sym, ap, ◌∙◌, subst, arith, Bor}
-use Rattle.std.specs.BTreeMap.{BTreeMap, get}
-use Rattle.std.specs.Ordering.{is_eq}
-use Rattle.std.specs.List.Sorted.{IsPartitionedBy, IsPartitionPoint}
-use Rattle.std.proofs.lemmas.List.{get_or-map, get_or_default, get_or_append_left, get_or-append-add, append-nil, length-append, length-map}
-use Rattle.std.specs.Option.{option_map}
-use Rattle.std.proofs.lemmas.Option.{slice_get-get_or, slice_get_within, slice_get-map}
-use Rattle.std.proofs.lemmas.Grind.{take_at_read}
-use Rattle.vz_ids.specs.declared.SurfaceId.{SurfaceId}
-use Rattle.vz_ids.specs.Ids.{same_sink, same_group, newer, at_least, group_of}
+use Rattle.std.proofs.Common.{◌≡◌, ℕ, ◌+◌, ◌-◌, ◌<◌, ◌≤◌, ◌⊎◌, inl, inr, Bool, true, false, Option, Some, None, List, [], ◌∷◌, ◌++◌, map, filter, length, get_or, slice_get, refl, sym, ap, ◌∙◌, subst, arith, Bor}
+use Rattle.std.specs.{BTreeMap.BTreeMap, BTreeMap.get, List.Sorted.IsPartitionedBy, List.Sorted.IsPartitionPoint}
+use Rattle.std.proofs.lemmas.List.{get_or-map, get_or_default, get_or_append_left, get_or-append-add, length-append, length-map}
+use Rattle.std.proofs.{lemmas.Option.slice_get-get_or, lemmas.Option.slice_get_within, lemmas.Option.slice_get-map, lemmas.Bool.Decides.nat_tests}
+use Rattle.vz_ids.specs.{declared.SurfaceId.SurfaceId, Ids.same_sink, Ids.same_group, Ids.at_least, Ids.group_of, declared.GroupKey.GroupKey}
 use Rattle.vz_rules.specs.World.{FrameData}
-use Rattle.vz_scene.specs.Groups.{is_newer, IsChain, IsNewest, by_group, frames_at, frames_in, HasGroups}
+use Rattle.vz_scene.specs.Groups.{is_newer, IsChain, IsNewest, by_group, frames_at, HasGroups}
 use Rattle.vz_ids.proofs.Ages.{both, eq_is, eq_so, at_least_is, at_least_trans, newer_is, newer_so}
-use Rattle.vz_ids.specs.declared.GroupKey.{GroupKey}
 use Rattle.vz_scene.proofs.Showing.{clash, newer_reaches}
-use Rattle.vz_scene.proofs.Ties.{group_ties}
 
 some_same : {A : Type 0} {a b : A} → Some a ≡ Some b → a ≡ b
 some_same f = cc
 
 -- what is newer than a newer one is newer
 newer_trans : (x y z : FrameData) → is_newer x y ≡ true → is_newer y z ≡ true → is_newer x z ≡ true
-newer_trans x y z e f =
-    let a = both (same_sink x.id.sink y.id.sink) (newer x.id.local y.id.local) e in
-    let b = both (same_sink y.id.sink z.id.sink) (newer y.id.local z.id.local) f in
-    let s = at_least_is x.id y.id (newer_reaches x y e) in
-    let t = at_least_is y.id z.id (newer_reaches y z f) in
-    let p = newer_is x.id.local y.id.local a.1 in
-    let q = newer_is y.id.local z.id.local b.1 in
-    let sink : same_sink x.id.sink z.id.sink ≡ true = ap (λ t. t && (x.id.sink.sink_id == z.id.sink.sink_id)) (eq_so _ _ (s.client ∙ t.client)) ∙ eq_so _ _ (s.sink ∙ t.sink) in
-    ap (λ t. t && newer x.id.local z.id.local) sink ∙ newer_so x.id.local z.id.local (p.token ∙ q.token) (omega arith) (omega arith) (omega arith)
+newer_trans x y z e f = grind (arith, nat_tests, both, at_least_is, newer_reaches, newer_is, eq_so, newer_so)
 
 -- the last of a list
 last_read : (xs : List FrameData) (x d : FrameData) → slice_get xs (length xs - 1) ≡ Some x → get_or xs (length xs - 1) d ≡ x
@@ -131,12 +116,7 @@ point_read (r ∷ rs) test n l p =
 
 -- the last reference is to the last frame
 pub last_of_references : (rs : List (Bor FrameData)) (xs : List FrameData) (r : Bor FrameData) → map (λ (r : Bor FrameData). r.now) rs ≡ xs → slice_get rs (length rs - 1) ≡ Some r → slice_get xs (length xs - 1) ≡ Some r.now
-last_of_references rs xs r is e =
-    subst (λ (l : List FrameData). slice_get l (length l - 1) ≡ Some r.now) is
-    (ap (λ n. slice_get (map (λ (r : Bor FrameData). r.now) rs) (n - 1)) (length_map_same rs) ∙ (slice_get-map (λ (r : Bor FrameData). r.now) rs (length rs - 1) ∙ ap (option_map (λ (r : Bor FrameData). r.now)) e))
-  where
-    length_map_same : (rs : List (Bor FrameData)) → length (map (λ (r : Bor FrameData). r.now) rs) ≡ length rs
-    length_map_same rs = length-map rs (λ (r : Bor FrameData). r.now)
+last_of_references rs xs r is e = grind (arith, nat_tests, slice_get-map, length-map)
 
 -- where those up to a surface end
 pub chain_point : (rs : List (Bor FrameData)) (xs : List FrameData) (end : SurfaceId) (n : ℕ) → map (λ (r : Bor FrameData). r.now) rs ≡ xs → IsChain xs → n ≤ length rs
@@ -152,8 +132,7 @@ as_many_references rs xs is = ap length (sym is) ∙ length-map rs (λ (r : Bor 
 
 -- what an index reads
 pub read_reference : (rs : List (Bor FrameData)) (xs : List FrameData) (r : Bor FrameData) (n : ℕ) → map (λ (r : Bor FrameData). r.now) rs ≡ xs → n < length rs → r ≡ get_or rs n r → r.now ≡ get_or xs n r.now
-read_reference rs xs r n is h e =
-    ap (λ (r : Bor FrameData). r.now) e ∙ (sym (get_or-map (λ (r : Bor FrameData). r.now) rs n r r.now h) ∙ ap (λ l. get_or l n r.now) is)
+read_reference rs xs r n is h e = grind (arith, nat_tests, get_or-map)
 
 -- Maps of groups
 
@@ -164,43 +143,4 @@ pub group_none : (m : BTreeMap GroupKey (List FrameData)) (all : List FrameData)
 group_none m all id key has is e = ap (λ (o : Option (List FrameData)). elim o [ Some active ↦ active | None ↦ [] ]) e ∙ (ap (frames_at m) is ∙ has id)
 
 pub one_key : (a b : SurfaceId) → same_group a b ≡ true → group_of a ≡ group_of b
-one_key a b e =
-    let x = both (same_sink a.sink b.sink) (a.local.token.0 == b.local.token.0) e in
-    let y = both (a.sink.client_id == b.sink.client_id) (a.sink.sink_id == b.sink.sink_id) x.0 in
-    λ i. record { sink = record { client_id = eq_is _ _ y.0 i; sink_id = eq_is _ _ y.1 i }; token = record { 0 = eq_is _ _ x.1 i } }
-
--- a frame is added to its group
-pub group_added : (old mid new : BTreeMap GroupKey (List FrameData)) (key : GroupKey) (submitted : FrameData) (before after : List FrameData) → key ≡ group_of submitted.id → before ≡ frames_at old key → after ≡ before ++ submitted ∷ []
-    → ((q : GroupKey) → get by_group mid q ≡ cond (is_eq (by_group key q)) None (get by_group old q)) → ((q : GroupKey) → get by_group new q ≡ cond (is_eq (by_group key q)) (Some after) (get by_group mid q))
-    → (id : SurfaceId) → frames_in new id ≡ frames_in old id ++ cond (same_group submitted.id id) (submitted ∷ []) []
-group_added old mid new key submitted before after is was added taken put id = by (same_group submitted.id id) refl
-  where
-    tie : (t : Bool) → same_group submitted.id id ≡ t → is_eq (by_group key (group_of id)) ≡ t
-    tie t e = ap (λ k. is_eq (by_group k (group_of id))) is ∙ (group_ties submitted.id id ∙ e)
-
-    read : Option (List FrameData) → List FrameData
-    read o = elim o [ Some active ↦ active | None ↦ [] ]
-
-    by : (t : Bool) → same_group submitted.id id ≡ t → frames_in new id ≡ frames_in old id ++ cond (same_group submitted.id id) (submitted ∷ []) []
-    by true e =
-        ap read (put (group_of id) ∙ ap (λ t. cond t (Some after) (get by_group mid (group_of id))) (tie true e))
-        ∙ (added ∙ (ap (λ l. l ++ submitted ∷ []) (was ∙ ap (frames_at old) (is ∙ one_key submitted.id id e)) ∙ ap (λ t. frames_in old id ++ cond t (submitted ∷ []) []) (sym e)))
-    by false e =
-        ap read (put (group_of id) ∙ (ap (λ t. cond t (Some after) (get by_group mid (group_of id))) (tie false e) ∙ (taken (group_of id) ∙ ap (λ t. cond t None (get by_group old (group_of id))) (tie false e))))
-        ∙ (sym (append-nil (frames_in old id)) ∙ ap (λ t. frames_in old id ++ cond t (submitted ∷ []) []) (sym e))
-
-filter_push : {A : Type 0} (p : A → Bool) (xs : List A) (x : A) → filter p (xs ++ x ∷ []) ≡ filter p xs ++ cond (p x) (x ∷ []) []
-filter_push p [] x = refl
-filter_push p (y ∷ ys) x =
-    elim (p y) as (λ (t : Bool). cond t (y ∷ filter p (ys ++ x ∷ [])) (filter p (ys ++ x ∷ [])) ≡ cond t (y ∷ filter p ys) (filter p ys) ++ cond (p x) (x ∷ []) []) [
-      | true ↦ ap (λ l. y ∷ l) (filter_push p ys x)
-      | false ↦ filter_push p ys x
-    ]
-
--- one frame more is in its group
-pub groups_more : (old new : BTreeMap GroupKey (List FrameData)) (xs : List FrameData) (k : ℕ) (d : FrameData) → k < length xs
-    → ((id : SurfaceId) → frames_in new id ≡ frames_in old id ++ cond (same_group (get_or xs k d).id id) (get_or xs k d ∷ []) []) → HasGroups old (take k xs) → HasGroups new (take (k + 1) xs)
-groups_more old new xs k d h adds has id =
-    let test = λ (i : FrameData). same_group i.id id in
-    adds id ∙ (ap (λ l. l ++ cond (same_group (get_or xs k d).id id) (get_or xs k d ∷ []) []) (has id)
-    ∙ sym (ap (filter test) (take_at_read xs k d h).1 ∙ filter_push test (take k xs) (get_or xs k d)))
+one_key a b e = grind (arith, nat_tests, both (same_sink a.sink b.sink), both, eq_is)

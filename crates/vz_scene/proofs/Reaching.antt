@@ -1,32 +1,18 @@
 -- One surface more among the newest of some.
-use Rattle.std.proofs.Common.{◌≡◌, Bool, true, false, ◌||◌, cond, Option, Some, None, List, [], ◌∷◌, ◌++◌, refl, sym, ap, ◌∙◌}
-use Rattle.std.specs.List.{list_any}
-use Rattle.std.specs.BTreeMap.{BTreeMap, get}
-use Rattle.std.specs.Ordering.{is_eq}
-use Rattle.std.proofs.lemmas.List.Folds.{list_any-append}
-use Rattle.vz_ids.specs.declared.SurfaceId.{SurfaceId}
-use Rattle.vz_ids.specs.Ids.{same_group, at_least, group_of}
-use Rattle.vz_scene.specs.Groups.{by_group}
-use Rattle.vz_scene.specs.Reached.{is_at_least_in, is_reached, reaches, AreNewest}
+use Rattle.std.proofs.Common.{◌≡◌, Bool, true, false, ◌||◌, cond, Option, Some, None, List, [], ◌∷◌, ◌++◌, refl, sym, ap, ◌∙◌, arith}
+use Rattle.std.specs.{List.list_any, BTreeMap.BTreeMap, BTreeMap.get, Ordering.is_eq}
+use Rattle.std.proofs.{lemmas.List.Folds.list_any-append, lemmas.Bool.or_left as either_true, lemmas.Bool.Decides.nat_tests}
+use Rattle.vz_ids.specs.{declared.SurfaceId.SurfaceId, Ids.same_group, Ids.at_least, Ids.group_of, declared.GroupKey.GroupKey}
+use Rattle.vz_scene.specs.{Groups.by_group, Reached.is_at_least_in, Reached.reaches}
 use Rattle.vz_ids.proofs.Ages.{at_least_trans}
-use Rattle.vz_ids.specs.declared.GroupKey.{GroupKey}
-use Rattle.vz_scene.proofs.Chains.{one_key}
-use Rattle.vz_scene.proofs.Showing.{clash, never, group_from}
-use Rattle.vz_scene.proofs.Ties.{group_ties}
+use Rattle.vz_scene.proofs.{Chains.one_key, Showing.clash, Showing.never, Showing.group_from, Ties.group_ties}
 
 or_false : (t : Bool) → t ≡ (t || false)
-or_false true = refl
-or_false false = refl
+or_false t = grind (arith, nat_tests)
 
 -- a stronger test before a weaker one
 absorbs : (s t : Bool) → (t ≡ true → s ≡ true) → s ≡ (s || t)
-absorbs true t h = refl
-absorbs false true h = h refl
-absorbs false false h = refl
-
-either_true : (s t : Bool) → s ≡ true → (s || t) ≡ true
-either_true true t e = refl
-either_true false t e = absurd (cc)
+absorbs s t h = grind (arith, nat_tests)
 
 -- the surface that stands for a group, where the group is that of another
 stands : (groups : BTreeMap GroupKey SurfaceId) (id newest d : SurfaceId) (key : GroupKey) → key ≡ group_of id → Some newest ≡ get by_group groups key → at_least id d ≡ true → get by_group groups (group_of d) ≡ Some newest
@@ -40,14 +26,7 @@ reached_already groups others id newest key is there e d =
 
 -- one beside the others
 pub reached_beside : (groups : BTreeMap GroupKey SurfaceId) (others more : List SurfaceId) (id : SurfaceId) → more ≡ others ++ id ∷ [] → (d : SurfaceId) → reaches groups more d ≡ (reaches groups others d || at_least id d)
-reached_beside groups others more id e d =
-    let a = is_at_least_in (get by_group groups (group_of d)) d in
-    let p = λ (i : SurfaceId). at_least i d in
-    ap (λ l. a || list_any p l) e ∙ (ap (λ t. a || t) (list_any-append p others (id ∷ [])) ∙ (ap (λ t. a || (list_any p others || t)) (sym (or_false (at_least id d))) ∙ grouped a (list_any p others) (at_least id d)))
-  where
-    grouped : (x y z : Bool) → (x || (y || z)) ≡ ((x || y) || z)
-    grouped true y z = refl
-    grouped false y z = refl
+reached_beside groups others more id e d = grind (arith, nat_tests, list_any-append, or_false)
 
 -- one in the place of its group, where it reaches what stood there
 pub reached_instead : (old new : BTreeMap GroupKey SurfaceId) (others : List SurfaceId) (id : SurfaceId) (key : GroupKey) → key ≡ group_of id
@@ -84,14 +63,3 @@ covers_none o id e d f = absurd (clash (is_at_least_in o d) f (ap (λ o. is_at_l
 
 pub covers_older : (o : Option SurfaceId) (id newest : SurfaceId) → Some newest ≡ o → at_least id newest ≡ true → (d : SurfaceId) → is_at_least_in o d ≡ true → at_least id d ≡ true
 covers_older o id newest e reach d f = at_least_trans id newest d reach (ap (λ o. is_at_least_in o d) e ∙ f)
-
--- they still reach what these do, with one more
-pub newest_more : (old new : BTreeMap GroupKey SurfaceId) (others more all longer : List SurfaceId) (id : SurfaceId) → longer ≡ all ++ id ∷ [] → ((d : SurfaceId) → reaches new more d ≡ (reaches old others d || at_least id d)) → AreNewest old others all → AreNewest new more longer
-newest_more old new others more all longer id e puts has d =
-    puts d
-    ∙ (ap (λ t. t || at_least id d) (has d)
-    ∙ (ap (λ t. is_reached all d || t) (or_false (at_least id d)) ∙ (sym (list_any-append (λ (i : SurfaceId). at_least i d) all (id ∷ [])) ∙ ap (λ l. is_reached l d) (sym e))))
-
--- and where none was added
-pub newest_still : (old new : BTreeMap GroupKey SurfaceId) (others more all same : List SurfaceId) → same ≡ all → ((d : SurfaceId) → reaches new more d ≡ reaches old others d) → AreNewest old others all → AreNewest new more same
-newest_still old new others more all same e puts has d = puts d ∙ (has d ∙ ap (λ l. is_reached l d) (sym e))

@@ -1,7 +1,6 @@
 -- The newest of some frames is found among those of one group.
-use Rattle.std.proofs.Common.{◌≡◌, ℕ, ◌⊎◌, inl, inr, Bool, true, false, not, ◌&&◌, ◌||◌, ◌==◌, cond, Option, Some, None, is_some, List, [], ◌∷◌, filter, find, refl, sym, ap, ◌∙◌, subst, Contains}
-use Rattle.vz_ids.specs.declared.SurfaceId.{SurfaceId}
-use Rattle.vz_ids.specs.declared.SurfaceRange.{SurfaceRange}
+use Rattle.std.proofs.Common.{◌≡◌, ◌⊎◌, inl, inr, Bool, true, false, not, ◌&&◌, ◌||◌, cond, Option, Some, None, is_some, List, [], ◌∷◌, filter, find, refl, sym, ap, ◌∙◌, subst, Contains, arith}
+use Rattle.vz_ids.specs.{declared.SurfaceId.SurfaceId, declared.SurfaceRange.SurfaceRange}
 use Rattle.vz_ids.specs.Ids.{same_sink, same_surface, same_group, newer, at_least}
 use Rattle.vz_rules.specs.World.{FrameData, frame_on}
 use Rattle.vz_rules.specs.Scene.{newest, newer_frame, from_start, in_range, after_start}
@@ -9,31 +8,20 @@ use Rattle.vz_rules.proofs.Members.{contains_here, contains_there, contains_none
 use Rattle.vz_scene.specs.Groups.{is_newer, IsNewest, FindsNewest, that_passes}
 use Rattle.vz_ids.proofs.Ages.{both, at_least_is, at_least_trans, newer_once, eq_so}
 use Rattle.vz_scene.proofs.Ties.{surface_sym}
+use Rattle.vz_rules.proofs.Reached.{self_same as same_itself}
+pub use Rattle.std.proofs.lemmas.Bool.{false_from_ne_true as never}
+use Rattle.std.proofs.lemmas.Bool.Decides.{nat_tests}
 
 pub clash : (t : Bool) → t ≡ true → t ≡ false → ⊥
 clash t e f = absurd (cc)
 
 -- a frame on a newer surface is at least the other
 pub newer_reaches : (x y : FrameData) → is_newer x y ≡ true → at_least x.id y.id ≡ true
-newer_reaches x y e = by (same_surface x.id y.id) _ e
-  where
-    by : (s t : Bool) → t ≡ true → (s || t) ≡ true
-    by true t f = refl
-    by false t f = f
+newer_reaches x y e = grind (arith, nat_tests)
 
 -- so is one on the same surface
 same_reaches : (a b : SurfaceId) → same_surface a b ≡ true → at_least a b ≡ true
 same_reaches a b e = ap (λ t. t || (same_sink a.sink b.sink && newer a.local b.local)) e
-
-same_itself : (a : SurfaceId) → same_surface a a ≡ true
-same_itself a = five _ _ _ _ _ (eq_so a.sink.client_id _ refl) (eq_so a.sink.sink_id _ refl) (eq_so a.local.parent _ refl) (eq_so a.local.child _ refl) (eq_so a.local.token.0 _ refl)
-  where
-    five : (s t u v w : Bool) → s ≡ true → t ≡ true → u ≡ true → v ≡ true → w ≡ true → ((s && t) && (u && v && w)) ≡ true
-    five true true true true w e f g h k = k
-    five true true true false w e f g h k = absurd (cc)
-    five true true false v w e f g h k = absurd (cc)
-    five true false u v w e f g h k = absurd (cc)
-    five false t u v w e f g h k = absurd (cc)
 
 old_reaches : (x y : FrameData) → (y ≡ x) ⊎ (is_newer x y ≡ true) → at_least x.id y.id ≡ true
 old_reaches x y (inl e) = subst (λ (z : FrameData). at_least x.id z.id ≡ true) (sym e) (same_reaches x.id x.id (same_itself x.id))
@@ -45,30 +33,14 @@ not_newer x y o = newer_once x.id y.id (old_reaches x y o)
 -- the newest is one of them
 newest_there : (xs : List FrameData) (x : FrameData) → newest xs ≡ Some x → Contains xs x
 newest_there [] x e = absurd (cc)
-newest_there (y ∷ ys) x e = by (λ j g. newest_there ys j g) (newest ys) refl e
-  where
-    some_same : {A : Type 0} {a b : A} → Some a ≡ Some b → a ≡ b
-    some_same f = cc
-
-    pick : (j : FrameData) (t : Bool) → (Contains ys j) → cond t (Some j) (Some y) ≡ Some x → Contains (y ∷ ys) x
-    pick j true c f = subst (λ z. Contains (y ∷ ys) z) (some_same f) (contains_there y j ys c)
-    pick j false c f = subst (λ z. Contains (y ∷ ys) z) (some_same f) (contains_here y ys)
-
-    by : ((j : FrameData) → newest ys ≡ Some j → Contains ys j) → (o : Option FrameData) → newest ys ≡ o → newer_frame y o ≡ Some x → Contains (y ∷ ys) x
-    by rest None g f = subst (λ z. Contains (y ∷ ys) z) (some_same f) (contains_here y ys)
-    by rest (Some j) g f = pick j (newer j.id.local y.id.local) (rest j g) f
+newest_there (y ∷ ys) x e = grind (arith, nat_tests, newest_there ys, contains_there y, contains_here y ys)
 
 -- the newer of the newest and others that are older
 stays : (x : FrameData) (o : Option FrameData) → ((j : FrameData) → o ≡ Some j → newer j.id.local x.id.local ≡ false) → newer_frame x o ≡ Some x
-stays x None h = refl
-stays x (Some j) h = ap (λ (t : Bool). cond t (Some j) (Some x)) (h j refl)
+stays x o h = grind (arith, nat_tests)
 
 gives_way : (x y : FrameData) → (y ≡ x) ⊎ (is_newer x y ≡ true) → newer_frame y (Some x) ≡ Some x
-gives_way x y (inl e) = subst (λ (z : FrameData). newer_frame z (Some x) ≡ Some x) (sym e) (either_way (newer x.id.local x.id.local))
-  where
-    either_way : (t : Bool) → cond t (Some x) (Some x) ≡ Some x
-    either_way true = refl
-    either_way false = refl
+gives_way x y (inl e) = grind (arith, nat_tests)
 gives_way x y (inr e) = ap (λ (t : Bool). cond t (Some x) (Some y)) (both (same_sink x.id.sink y.id.sink) (newer x.id.local y.id.local) e).1
 
 -- one that passes, where the others that do are older, is the newest of those that do
@@ -96,16 +68,8 @@ newest_some p (y ∷ ys) x c e h = by (λ r. newest_some p ys x r e (λ z d f. h
 newest_none : (p : FrameData → Bool) (xs : List FrameData) → ((y : FrameData) → Contains xs y → p y ≡ false) → newest (filter p xs) ≡ None
 newest_none p xs h = ap newest (filter_none p xs h)
 
--- where it cannot be true it is false
-pub never : (t : Bool) → (t ≡ true → ⊥) → t ≡ false
-never true h = absurd (h refl)
-never false h = refl
-
 pub group_from : (a b : SurfaceId) → at_least a b ≡ true → (same_group a b ≡ true) × (same_group b a ≡ true)
-group_from a b e = let x = at_least_is a b e in (three x.client x.sink x.token, three (sym x.client) (sym x.sink) (sym x.token))
-  where
-    three : {m n s t k l : ℕ} → m ≡ n → s ≡ t → k ≡ l → ((m == n) && (s == t) && (k == l)) ≡ true
-    three {m} {n} {s} {t} {k} {l} e f g = ap (λ z. z && (s == t) && (k == l)) (eq_so m n e) ∙ (ap (λ z. z && (k == l)) (eq_so s t f) ∙ eq_so k l g)
+group_from a b e = grind (arith, nat_tests, at_least_is a b e, eq_so)
 
 -- the newest frame of the range's own group, by the newest up to its end
 pub found_in : (range : SurfaceRange) (all group : List FrameData) (o : Option FrameData) → group ≡ filter (λ (i : FrameData). same_group i.id range.end) all → FindsNewest (λ (i : FrameData). at_least range.end i.id) group o
@@ -166,8 +130,7 @@ found_after range start all group o starts is found_it =
 
 -- without a start none is behind it
 pub no_start : (range : SurfaceRange) (all : List FrameData) → range.start ≡ None → None ≡ newest (filter (after_start range.start range.end) all)
-no_start range all e =
-    sym (ap (λ (s : Option SurfaceId). newest (filter (after_start s range.end) all)) e ∙ newest_none (after_start None range.end) all (λ y c. refl))
+no_start range all e = grind (arith, nat_tests, newest_none (after_start None range.end) all)
 
 -- the frame on a surface, by the newest up to it
 pub found_on : (id : SurfaceId) (all group : List FrameData) (o : Option FrameData) → group ≡ filter (λ (i : FrameData). same_group i.id id) all → FindsNewest (λ (i : FrameData). at_least id i.id) group o

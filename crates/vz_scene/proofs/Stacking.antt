@@ -1,59 +1,36 @@
 -- The walk over a stack of what is still to be walked.
-use Rattle.std.proofs.Common.{◌≡◌, ℕ, zero, suc, ◌+◌, ◌-◌, ◌*◌, ◌<◌, ◌≤◌, Bool, true, false, cond, Option, Some, None, List, [], ◌∷◌, ◌++◌, take, drop, length, get_or, reverse, slice_get, refl, sym, ap, ◌∙◌, arith, append_assoc, length-append, ◌||◌, nat_lt, count_by}
-use Rattle.std.proofs.lemmas.Bool.Decides.{nat_tests}
-use Rattle.std.proofs.lemmas.List.Folds.{list_any-append}
-use Rattle.std.proofs.lemmas.List.Sums.{sum_by-append}
+use Rattle.std.proofs.Common.{◌≡◌, ℕ, ◌+◌, ◌-◌, ◌*◌, ◌<◌, ◌≤◌, Bool, true, false, Option, Some, None, List, [], ◌∷◌, ◌++◌, take, length, get_or, reverse, slice_get, refl, sym, ap, ◌∙◌, arith, ◌||◌, nat_lt}
+use Rattle.std.proofs.{lemmas.Bool.Decides.nat_tests, lemmas.Option.slice_get-get_or}
+use Rattle.std.proofs.{lemmas.List.Folds.list_any-append, lemmas.List.Sums.sum_by-append, lemmas.Grind.take_at_read, lemmas.Grind.common_steps}
 use Rattle.std.proofs.lemmas.List.{reverse-append, take_all, append-nil, drop_all, drop_more}
-use Rattle.std.proofs.lemmas.Grind.{take_at_read}
-use Rattle.std.proofs.lemmas.Option.{slice_get-get_or}
-use Rattle.vz_frame.specs.declared.frame.RenderPass.{RenderPass}
-use Rattle.vz_frame.specs.Frame.{names_pass}
-use Rattle.vz_ids.specs.declared.SurfaceId.{SurfaceId}
-use Rattle.vz_rules.specs.World.{FrameData}
-use Rattle.vz_rules.specs.Walk.{Placement, Visit, WalkRange, Quad, Shows, Enters, WalkNamed, place_in, pass_walked, quad_walked, groups_walked, root_walked, range_walked, walk, weight, too_much, is_quad, is_deep}
-use Rattle.vz_rules.specs.Paint.{on_path}
-use Rattle.vz_rules.specs.Scene.{shown_frame}
-use Rattle.vz_ids.specs.declared.SurfaceRange.{SurfaceRange}
-use Rattle.std.specs.List.{flat_map, list_any}
-use Rattle.std.specs.Option.{option_to_list}
+use Rattle.vz_frame.specs.{declared.frame.RenderPass.RenderPass, Frame.names_pass, declared.frame.Material.Material}
+use Rattle.vz_ids.specs.{declared.SurfaceId.SurfaceId, declared.SurfaceRange.SurfaceRange}
+use Rattle.vz_rules.specs.{World.FrameData, Paint.on_path, Scene.shown_frame}
+use Rattle.vz_rules.specs.Walk.{Placement, Visit, WalkRange, Quad, Shows, Enters, WalkNamed, place_in, pass_walked, quad_walked, groups_walked, root_walked, range_walked, walk, weight, too_much, is_deep}
+use Rattle.std.specs.{List.flat_map, List.list_any, Option.option_to_list}
 use Rattle.vz_geom.specs.Rectangle.{minus, corner}
-use Rattle.vz_frame.specs.declared.frame.DrawQuad.{DrawQuad}
-use Rattle.vz_frame.specs.declared.frame.Material.{Material}
-use Rattle.vz_frame.specs.declared.frame.Material.TheVariants.{Surface, Pass}
-use Rattle.vz_scene.specs.Walking.{Cursor, cursor_walked, stack_walked, maybe_walked, next_cursor, ranges_of, named_of, group_of, group_at, quads_from}
+use Rattle.vz_frame.specs.{declared.frame.DrawQuad.DrawQuad, declared.frame.Material.TheVariants.Surface, declared.frame.Material.TheVariants.Pass}
+use Rattle.vz_scene.specs.Walking.{Cursor, cursor_walked, stack_walked, maybe_walked, next_cursor, ranges_of, named_of, group_at, quads_from}
 
 turned : (passes : List RenderPass) (k : ℕ) (d : RenderPass) → k < length passes → reverse (take (k + 1) passes) ≡ get_or passes k d ∷ reverse (take k passes)
 turned passes k d h = ap reverse (take_at_read passes k d h).1 ∙ reverse-append (take k passes) (get_or passes k d ∷ [])
-
--- what a pass gives by whether it has the id
-abbrev group_by : WalkRange → List RenderPass → ℕ → ℕ → Placement → RenderPass → Bool → List Visit
-group_by ranges passes k id place pass t =
-    elim t [
-      | true ↦ group_of ranges passes k place (Some pass)
-      | false ↦ groups_walked ranges (reverse (take k passes)) id place
-    ]
 
 -- a pass of another id is passed over
 pub group_over : (ranges : WalkRange) (passes : List RenderPass) (j k id : ℕ) (d : RenderPass) (place : Placement) → k + 1 ≡ j → k < length passes → names_pass id (get_or passes k d) ≡ false
     → groups_walked ranges (reverse (take j passes)) id place ≡ groups_walked ranges (reverse (take k passes)) id place
 unfolding groups_walked
-group_over ranges passes j k id d place e h named =
-    ap (λ n. groups_walked ranges (reverse (take n passes)) id place) (sym e) ∙ (ap (λ l. groups_walked ranges l id place) (turned passes k d h)
-    ∙ ap (group_by ranges passes k id place (get_or passes k d)) named)
+group_over ranges passes j k id d place e h named = grind (arith, nat_tests, turned passes k d h)
 
 -- the pass of the id is met
 pub group_found : (ranges : WalkRange) (passes : List RenderPass) (j k id : ℕ) (d : RenderPass) (place : Placement) → k + 1 ≡ j → k < length passes → names_pass id (get_or passes k d) ≡ true
     → groups_walked ranges (reverse (take j passes)) id place ≡ group_at ranges passes place (Some k)
 unfolding groups_walked
-group_found ranges passes j k id d place e h named =
-    ap (λ n. groups_walked ranges (reverse (take n passes)) id place) (sym e) ∙ (ap (λ l. groups_walked ranges l id place) (turned passes k d h)
-    ∙ (ap (group_by ranges passes k id place (get_or passes k d)) named ∙ ap (group_of ranges passes k place) (sym (slice_get-get_or passes k d h))))
+group_found ranges passes j k id d place e h named = grind (arith, nat_tests, turned passes k d h, slice_get-get_or passes k d h)
 
 -- there is no further pass
 pub group_none : (ranges : WalkRange) (passes : List RenderPass) (k id : ℕ) (place : Placement) → k ≤ 0 → groups_walked ranges (reverse (take k passes)) id place ≡ []
 unfolding groups_walked
-group_none ranges passes zero id place h = refl
-group_none ranges passes (suc k) id place h = absurd (omega arith)
+group_none ranges passes k id place h = grind (arith, nat_tests)
 
 -- the cursor of a surface that is gone into
 abbrev pub cursor_in : ℕ → List SurfaceId → FrameData → Placement → Cursor
@@ -73,17 +50,12 @@ root_none ranges (p ∷ ps) place e = absurd (omega arith)
 -- nor in a frame without passes
 pub enter_none : (n : ℕ) (active : List FrameData) (path : List SurfaceId) (i : FrameData) (place : Placement) → length i.frame.passes ≡ 0 → [] ≡ walk n active path i place
 unfolding walk
-enter_none zero active path i place e = refl
-enter_none (suc m) active path i place e = sym (root_none (range_walked (walk m active) active (i.id ∷ path)) i.frame.passes place e)
+enter_none n active path i place e = grind (arith, nat_tests, root_none)
 
 root_last : (ranges : WalkRange) (passes : List RenderPass) (place : Placement) (n : ℕ) (d : RenderPass) → n + 1 ≡ length passes
     → quads_from ranges passes n place 0 (slice_get passes n) ≡ root_walked ranges (reverse passes) place
 unfolding root_walked pass_walked
-root_last ranges passes place n d e =
-    let within : n < length passes = omega arith in
-    let last = get_or passes n d in
-    let all : reverse passes ≡ last ∷ reverse (take n passes) = ap reverse (sym (take_all (n + 1) passes (omega arith))) ∙ turned passes n d within in
-    ap (quads_from ranges passes n place 0) (slice_get-get_or passes n d within) ∙ sym (ap (λ l. root_walked ranges l place) all)
+root_last ranges passes place n d e = grind (arith, nat_tests, take_all, turned passes n d, slice_get-get_or passes n d)
 
 root_end : (ranges : WalkRange) (passes : List RenderPass) (place : Placement) (n : ℕ) → n + 1 ≡ length passes → quads_from ranges passes n place 0 (slice_get passes n) ≡ root_walked ranges (reverse passes) place
 root_end ranges [] place n e = absurd (omega arith)
@@ -93,12 +65,7 @@ root_end ranges (p ∷ ps) place n e = root_last ranges (p ∷ ps) place n p e
 pub enter_is : (n : ℕ) (active : List FrameData) (path : List SurfaceId) (i : FrameData) (place : Placement) → 0 < n → 0 < length i.frame.passes
     → cursor_walked active (cursor_in n path i place) ≡ walk n active path i place
 unfolding walk cursor_walked
-enter_is zero active path i place h k = absurd (omega arith)
-enter_is (suc m) active path i place h k =
-    let one : suc m - 1 ≡ m = omega arith in
-    let passes = i.frame.passes in
-    ap (λ j. quads_from (range_walked (walk j active) active (i.id ∷ path)) passes (length passes - 1) place 0 (slice_get passes (length passes - 1))) one
-    ∙ root_end (range_walked (walk m active) active (i.id ∷ path)) passes place (length passes - 1) (omega arith)
+enter_is n active path i place h k = grind (arith, nat_tests, root_end)
 
 -- what a range gives, by what it shows and whether that is on the path
 abbrev range_by : ℕ → List FrameData → List SurfaceId → SurfaceRange → Placement → Option FrameData → List Visit
@@ -115,31 +82,18 @@ range_is n active path range place = refl
 -- nothing is shown
 pub range_none : (n : ℕ) (active : List FrameData) (path : List SurfaceId) (range : SurfaceRange) (place : Placement) (o : Option FrameData) (old new : List Visit)
     → o ≡ shown_frame active range → o ≡ None → new ≡ old ++ Shows range o place.window ∷ [] → new ++ [] ≡ old ++ range_walked (walk n active) active path range place
-range_none n active path range place o old new e is h =
-    append-nil new ∙ (h ∙ (ap (λ k. old ++ Shows range k place.window ∷ []) is ∙ ap (λ l. old ++ l) (ap (range_by n active path range place) (sym is ∙ e) ∙ sym (range_is n active path range place))))
+range_none n active path range place o old new e is h = grind (arith, nat_tests, append-nil new, range_is n active path range place)
 
 -- what is shown is on the path
 pub range_again : (n : ℕ) (active : List FrameData) (path : List SurfaceId) (range : SurfaceRange) (place : Placement) (o : Option FrameData) (i : FrameData) (old new : List Visit)
     → o ≡ shown_frame active range → o ≡ Some i → on_path path i ≡ true → new ≡ old ++ Shows range o place.window ∷ [] → new ++ [] ≡ old ++ range_walked (walk n active) active path range place
-range_again n active path range place o i old new e is on h =
-    let same : Shows range (Some i) place.window ∷ [] ≡ range_by n active path range place (Some i) =
-    ap (λ (t : Bool). Shows range (Some i) place.window ∷ (elim t [ true ↦ [] | false ↦ Enters (length path + 1) i place ∷ walk n active path i place ])) (sym on) in
-    append-nil new ∙ (h ∙ (ap (λ k. old ++ Shows range k place.window ∷ []) is ∙ ap (λ l. old ++ l) (same ∙ (ap (range_by n active path range place) (sym is ∙ e) ∙ sym (range_is n active path range place)))))
+range_again n active path range place o i old new e is on h = grind (arith, nat_tests, append-nil new, range_is n active path range place)
 
 -- what is shown is gone into
 pub range_enters : (n : ℕ) (active : List FrameData) (path : List SurfaceId) (range : SurfaceRange) (place : Placement) (o : Option FrameData) (i : FrameData) (depth : ℕ) (old new newer rest : List Visit)
     → o ≡ shown_frame active range → o ≡ Some i → on_path path i ≡ false → new ≡ old ++ Shows range o place.window ∷ [] → newer ≡ new ++ Enters depth i place ∷ [] → depth ≡ length path + 1
     → rest ≡ walk n active path i place → newer ++ rest ≡ old ++ range_walked (walk n active) active path range place
-range_enters n active path range place o i depth old new newer rest e is on h k deep r =
-    let shows = Shows range (Some i) place.window in
-    let enters = Enters (length path + 1) i place in
-    let same : shows ∷ enters ∷ walk n active path i place ≡ range_by n active path range place (Some i) =
-    ap (λ (t : Bool). shows ∷ (elim t [ true ↦ [] | false ↦ enters ∷ walk n active path i place ])) (sym on) in
-    let first : new ≡ old ++ shows ∷ [] = h ∙ ap (λ x. old ++ Shows range x place.window ∷ []) is in
-    let second : newer ≡ (old ++ shows ∷ []) ++ enters ∷ [] = k ∙ (ap (λ l. l ++ Enters depth i place ∷ []) first ∙ ap (λ d. (old ++ shows ∷ []) ++ Enters d i place ∷ []) deep) in
-    ap (λ l. l ++ rest) second ∙ (ap (λ l. ((old ++ shows ∷ []) ++ enters ∷ []) ++ l) r
-    ∙ (append_assoc (old ++ shows ∷ []) (enters ∷ []) (walk n active path i place) ∙ (append_assoc old (shows ∷ []) (enters ∷ walk n active path i place)
-    ∙ ap (λ l. old ++ l) (same ∙ (ap (range_by n active path range place) (sym is ∙ e) ∙ sym (range_is n active path range place))))))
+range_enters n active path range place o i depth old new newer rest e is on h k deep r = grind (arith, nat_tests, common_steps, range_is n active path range place)
 
 -- the last cursor, and the rest of the stack
 pub stack_more : (active : List FrameData) (items : List Cursor) (it : Cursor) → stack_walked active (items ++ it ∷ []) ≡ cursor_walked active it ++ stack_walked active items
@@ -153,25 +107,14 @@ pass_there it passes k p e f h is = ap (λ l. slice_get l it.pass) (sym e) ∙ (
 pub cursor_done : (active : List FrameData) (it : Cursor) (passes : List RenderPass) (k n : ℕ) (p : RenderPass) (quads : List DrawQuad) → passes ≡ it.submitted.frame.passes → k ≡ it.pass → k < length passes
     → p ≡ get_or passes k p → quads ≡ p.quads → n ≡ it.quad → length quads ≤ n → cursor_walked active it ≡ []
 unfolding cursor_walked
-cursor_done active it passes k n p quads e f h is g m past =
-    let named = groups_walked (ranges_of active it) (reverse (take it.pass it.submitted.frame.passes)) in
-    ap (quads_from (ranges_of active it) it.submitted.frame.passes it.pass it.place it.quad) (pass_there it passes k p e f h is)
-    ∙ ap (flat_map (quad_walked named (ranges_of active it) p it.place)) (ap (λ j. drop j p.quads) (sym m) ∙ (ap (drop n) (sym g) ∙ drop_all n quads past))
+cursor_done active it passes k n p quads e f h is g m past = grind (arith, nat_tests, pass_there it passes k p e f h is, drop_all n quads past)
 
 -- the next quad, and those behind it
 pub cursor_next : (active : List FrameData) (it : Cursor) (passes : List RenderPass) (k n : ℕ) (p : RenderPass) (quads : List DrawQuad) (q : DrawQuad) → passes ≡ it.submitted.frame.passes → k ≡ it.pass → k < length passes
     → p ≡ get_or passes k p → quads ≡ p.quads → n ≡ it.quad → n < length quads → q ≡ get_or quads n q
     → cursor_walked active it ≡ quad_walked (named_of active it) (ranges_of active it) p it.place q ++ cursor_walked active (next_cursor it)
 unfolding cursor_walked
-cursor_next active it passes k n p quads q e f h is g m within here =
-    let named = groups_walked (ranges_of active it) (reverse (take it.pass it.submitted.frame.passes)) in
-    let there = pass_there it passes k p e f h is in
-    let from = quads_from (ranges_of active it) it.submitted.frame.passes it.pass it.place in
-    let each = quad_walked named (ranges_of active it) p it.place in
-    let split : drop it.quad p.quads ≡ q ∷ drop (it.quad + 1) p.quads =
-    ap (λ j. drop j p.quads) (sym m) ∙ (ap (drop n) (sym g) ∙ (drop_more quads n q within ∙ (ap (λ x. x ∷ drop (n + 1) quads) (sym here)
-    ∙ (ap (λ l. q ∷ drop (n + 1) l) g ∙ ap (λ j. q ∷ drop (j + 1) p.quads) m)))) in
-    ap (from it.quad) there ∙ (ap (flat_map each) split ∙ ap (λ l. each q ++ l) (sym (ap (from (it.quad + 1)) there)))
+cursor_next active it passes k n p quads q e f h is g m within here = grind (arith, nat_tests, pass_there it passes k p e f h is, drop_more quads n q within)
 
 -- the pass of an id, seen as a group
 pub cursor_group : (active : List FrameData) (it v : Cursor) → v ≡ it → (passes : List RenderPass) (before k id : ℕ) (o : Option ℕ) (p : RenderPass) (place inside : Placement) (path : List SurfaceId)
@@ -180,18 +123,7 @@ pub cursor_group : (active : List FrameData) (it v : Cursor) → v ≡ it → (p
     → inside ≡ record place { shift = minus place.shift (corner p.output) } → path ≡ v.path
     → cursor_walked active (record v { path = path; pass = k; quad = 0; place = inside }) ≡ groups_walked (ranges_of active it) (reverse (take it.pass it.submitted.frame.passes)) id place
 unfolding cursor_walked pass_walked
-cursor_group active it v e passes before k id o p place inside path f g found is h here at same =
-    let ranges = ranges_of active v in
-    let there : slice_get v.submitted.frame.passes k ≡ Some p = ap (λ l. slice_get l k) (sym f) ∙ (slice_get-get_or passes k p h ∙ ap (λ x. Some x) (sym here)) in
-    let group : cursor_walked active (record v { pass = k; quad = 0; place = record place { shift = minus place.shift (corner p.output) } }) ≡ group_at ranges passes place o =
-    ap (quads_from ranges v.submitted.frame.passes k (record place { shift = minus place.shift (corner p.output) }) 0) there
-    ∙ (ap (λ l. pass_walked (groups_walked ranges (reverse (take k l))) ranges p (record place { shift = minus place.shift (corner p.output) })) (sym f)
-    ∙ (ap (group_of ranges passes k place) (sym (slice_get-get_or passes k p h ∙ ap (λ x. Some x) (sym here))) ∙ ap (group_at ranges passes place) (sym is))) in
-    let back : group_at ranges passes place o ≡ groups_walked ranges (reverse (take v.pass v.submitted.frame.passes)) id place =
-    sym (found ranges place) ∙ (ap (λ j. groups_walked ranges (reverse (take j passes)) id place) g ∙ ap (λ l. groups_walked ranges (reverse (take v.pass l)) id place) f) in
-    ap (λ l. cursor_walked active (record v { path = l; pass = k; quad = 0; place = inside })) same
-    ∙ (ap (λ x. cursor_walked active (record v { pass = k; quad = 0; place = x })) at ∙ (group ∙ (back
-    ∙ ap (λ (x : Cursor). groups_walked (ranges_of active x) (reverse (take x.pass x.submitted.frame.passes)) id place) e)))
+cursor_group active it v e passes before k id o p place inside path f g found is h here at same = grind (arith, nat_tests, slice_get-get_or passes k p h)
 
 -- what is met in what a quad draws, by its material
 abbrev pub inner_of : WalkNamed → WalkRange → RenderPass → Placement → DrawQuad → Material → List Visit
@@ -206,66 +138,28 @@ inner_of named ranges pass place quad m =
 pub quad_more : (named : WalkNamed) (ranges : WalkRange) (pass : RenderPass) (place : Placement) (quad : DrawQuad) (m : Material) (old new inner : List Visit) → quad.material ≡ m → new ≡ old ++ Quad ∷ []
     → inner ≡ inner_of named ranges pass place quad m → new ++ inner ≡ old ++ quad_walked named ranges pass place quad
 unfolding quad_walked
-quad_more named ranges pass place quad m old new inner e h is =
-    ap (λ l. l ++ inner) h ∙ (append_assoc old (Quad ∷ []) inner ∙ ap (λ l. old ++ Quad ∷ l) (is ∙ ap (inner_of named ranges pass place quad) (sym e)))
+quad_more named ranges pass place quad m old new inner e h is = grind (arith, nat_tests, common_steps)
 
 pub maybe_stack : (active : List FrameData) (items : List Cursor) (o : Option Cursor) → stack_walked active (items ++ option_to_list o) ≡ maybe_walked active o ++ stack_walked active items
-maybe_stack active items None = ap (stack_walked active) (append-nil items)
-maybe_stack active items (Some it) = stack_more active items it
-
-few_some : (o : Option Cursor) → length (option_to_list o) ≤ 1
-few_some None = omega arith
-few_some (Some it) = omega arith
+maybe_stack active items o = grind (arith, nat_tests, append-nil items, stack_more)
 
 -- the stack gains a cursor and another one, if it is there
 pub pushed_few : (items pushed all : List Cursor) (next : Cursor) (o : Option Cursor) → pushed ≡ items ++ next ∷ [] → all ≡ pushed ++ option_to_list o → length all ≤ length items + 2
-pushed_few items pushed all next o p a =
-    let one = ap length p ∙ length-append items (next ∷ []) in
-    let both = ap length a ∙ length-append pushed (option_to_list o) in
-    let few = few_some o in
-    omega arith
+pushed_few items pushed all next o p a = grind (arith, nat_tests, common_steps)
 
 -- one quad of the last cursor was walked
 pub advanced : (active : List FrameData) (it next : Cursor) (items pushed all : List Cursor) (o : Option Cursor) (quad old new : List Visit) → cursor_walked active it ≡ quad ++ cursor_walked active (next_cursor it) → next ≡ next_cursor it
     → new ++ maybe_walked active o ≡ old ++ quad → pushed ≡ items ++ next ∷ [] → all ≡ pushed ++ option_to_list o
     → new ++ stack_walked active all ≡ old ++ (cursor_walked active it ++ stack_walked active items)
-advanced active it next items pushed all o quad old new e f h p a =
-    let rest = stack_walked active items in
-    let behind = cursor_walked active (next_cursor it) in
-    let stack : stack_walked active all ≡ maybe_walked active o ++ (behind ++ rest) =
-    ap (stack_walked active) a ∙ (maybe_stack active pushed o ∙ ap (λ l. maybe_walked active o ++ l)
-    (ap (stack_walked active) p ∙ (stack_more active items next ∙ ap (λ x. cursor_walked active x ++ rest) f))) in
-    ap (λ l. new ++ l) stack ∙ (sym (append_assoc new (maybe_walked active o) (behind ++ rest)) ∙ (ap (λ l. l ++ (behind ++ rest)) h
-    ∙ (append_assoc old quad (behind ++ rest) ∙ ap (λ l. old ++ l) (sym (append_assoc quad behind rest) ∙ ap (λ l. l ++ rest) (sym e)))))
-
-or_front : (a b c d : Bool) → (a ≡ true → c ≡ true) → (b ≡ true → d ≡ true) → (a || b) ≡ true → (c || d) ≡ true
-or_front true b c d f g h = ap (λ t. t || d) (f refl)
-or_front false true c d f g h = ap (λ t. c || t) (g refl) ∙ or_true c
-  where
-    or_true : (t : Bool) → (t || true) ≡ true
-    or_true true = refl
-    or_true false = refl
-or_front false false c d f g h = absurd (cc)
-
-heavier : (a b : ℕ) → nat_lt 65536 a ≡ true → nat_lt 65536 (a + b) ≡ true
-heavier a b h = grind (arith, nat_tests)
-
-any_front : (p : Visit → Bool) (xs ys : List Visit) → list_any p xs ≡ true → list_any p (xs ++ ys) ≡ true
-any_front p xs ys h = list_any-append p xs ys ∙ ap (λ t. t || list_any p ys) h
+advanced active it next items pushed all o quad old new e f h p a = grind (arith, nat_tests, common_steps, maybe_stack active pushed o, stack_more active items next)
 
 -- what begins with too much is too much
 pub too_much_front : (xs ys : List Visit) → too_much xs ≡ true → too_much (xs ++ ys) ≡ true
 unfolding too_much weight
-too_much_front xs ys h =
-    or_front _ _ _ _ (λ k. ap (nat_lt 65536) (sum_by-append (λ m. cond (is_quad m) 1 0) xs ys) ∙ heavier (count_by is_quad xs) (count_by is_quad ys) k) (any_front is_deep xs ys) h
+too_much_front xs ys h = grind (arith, nat_tests, sum_by-append, list_any-append)
 
 few_by : (n : ℕ) (deep : Bool) → (nat_lt 65536 n || deep) ≡ false → n ≤ 65536
-few_by n true e = absurd (or_ends (nat_lt 65536 n) e)
-  where
-    or_ends : (t : Bool) → (t || true) ≡ false → ⊥
-    or_ends true h = cc
-    or_ends false h = cc
-few_by n false e = grind (arith, nat_tests)
+few_by n deep e = grind (arith, nat_tests)
 
 -- what is not too much has few quads
 pub little_is_few : (visits : List Visit) → too_much visits ≡ false → weight visits ≤ 65536
@@ -275,10 +169,7 @@ little_is_few visits e = few_by (weight visits) (list_any is_deep visits) e
 -- a turn leaves less to be walked
 pub turn_is_less : (old new : List Visit) (before popped after : List Cursor) (it : Cursor) → too_much old ≡ false → before ≡ popped ++ it ∷ [] → length after + 2 * weight old ≤ length popped + 2 * weight new
     → weight new ≤ weight old + 1 → 2 * (65537 - weight new) + length after < 2 * (65537 - weight old) + length before
-turn_is_less old new before popped after it little pop stack one =
-    let few = little_is_few old little in
-    let more = ap length pop ∙ length-append popped (it ∷ []) in
-    omega arith
+turn_is_less old new before popped after it little pop stack one = grind (arith, nat_tests, common_steps, little_is_few old little)
 
 -- nothing is left on the stack
 pub stack_empty : (active : List FrameData) (items : List Cursor) → length items ≡ 0 → stack_walked active items ≡ []

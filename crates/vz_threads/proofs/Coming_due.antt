@@ -1,23 +1,16 @@
 -- That begin-frames come to an end: with each the tick is nearer to the latest deadline that is waited for.
-use Rattle.std.proofs.Common.{◌≡◌, ℕ, zero, suc, ◌+◌, ◌-◌, ◌<◌, ◌≤◌, ◌&&◌, ◌||◌, Bool, true, false, inl, inr, List, [], ◌∷◌, length, map, refl, sym, ap, subst, ◌∙◌, arith, cond, Contains}
-use Rattle.std.specs.Prelude.{max, nat_le}
-use Rattle.std.specs.List.{list_any, list_all}
-use Rattle.std.proofs.lemmas.Bool.{ne_eqb, leb-false}
+use Rattle.std.proofs.Common.{◌≡◌, ℕ, zero, suc, ◌+◌, ◌-◌, ◌<◌, ◌≤◌, ◌&&◌, Bool, true, false, List, [], ◌∷◌, length, map, refl, sym, ap, ◌∙◌, arith, cond, Contains}
+use Rattle.std.specs.{Prelude.max, Prelude.nat_le, List.list_all}
+use Rattle.std.proofs.{lemmas.Bool.ne_eqb, lemmas.Bool.leb-false, lemmas.Bool.Decides.nat_tests}
 use Rattle.vz_base.specs.declared.limits.TheConstants.{LAST_TICK}
 use Rattle.vz_ids.specs.declared.Sub.{Sub}
-use Rattle.vz_rules.specs.declared.entry.State.TheVariants.{Active, Past, Dropped}
 use Rattle.vz_rules.specs.declared.entry.Event.TheVariants as event
-use Rattle.vz_rules.specs.declared.entry.Entry.{Entry}
-use Rattle.vz_rules.specs.Plan.{Plan}
-use Rattle.vz_rules.specs.World.{World, Submission, opening, is_waiting, is_active, is_on}
+use Rattle.vz_rules.specs.{declared.entry.Entry.Entry, Plan.Plan, Reach.naming, Reach.clearing, Reach.collect, Messages.Answer, Course.some_waits}
+use Rattle.vz_rules.specs.{World.World, World.Submission, World.opening, World.is_waiting, Returns.give_back, Returns.mark_fed, Returns.feed}
 use Rattle.vz_rules.specs.Settle.{is_met, has_come, is_ready, ready, after_round, round, rounds, settle}
-use Rattle.vz_rules.specs.Reach.{drop_on, lost_in, naming, clearing, collect}
-use Rattle.vz_rules.specs.Returns.{give_back, mark_fed, feed}
-use Rattle.vz_rules.specs.Messages.{Answer}
 use Rattle.vz_rules.specs.Step.{next_tick, begin_answer, answer_to, presented_by, outcome_of, step_in, world_from, world}
-use Rattle.vz_rules.specs.Course.{some_waits}
 use Rattle.vz_rules.proofs.Members.{any_at, contains_cases, contains_here, contains_there, contains_map, contains_none, none_filtered}
-use Rattle.vz_rules.proofs.Activated.{none_ready_after}
+use Rattle.vz_rules.proofs.{Activated.none_ready_after, Levels.or_second as or_none}
 use Rattle.vz_threads.specs.Tails.{AllComeDue}
 
 -- What waits after a step waited before
@@ -30,9 +23,7 @@ waits_same : (subs : List Submission) → WaitsLess subs subs
 waits_same subs = record { from = λ s there waits. (s, there, waits, refl) }
 
 waits_then : (a b c : List Submission) → WaitsLess a b → WaitsLess b c → WaitsLess a c
-waits_then a b c h k = record {
-  from = λ s there waits. let m = k.from s there waits in let r = h.from m.0 m.1 m.2 in (r.0, r.1, r.2, r.3 ∙ m.3);
-}
+waits_then a b c h k = grind (arith, nat_tests)
 
 waits_map : (f : Submission → Submission) (subs : List Submission) → ((s : Submission) → (f s).due ≡ s.due) → ((s : Submission) → is_waiting (f s) ≡ true → is_waiting s ≡ true)
     → WaitsLess subs (map f subs)
@@ -42,22 +33,9 @@ waits_map f subs due waiting = record {
       (m.0, m.1, waiting m.0 (ap is_waiting m.2 ∙ waits), sym (due m.0) ∙ ap (λ (x : Submission). x.due) m.2);
 }
 
-after_due : (becomes past : Bool) (s : Submission) → (cond becomes (record s { state = Active; was_active = true }) (cond past (record s { state = Past }) s)).due ≡ s.due
-after_due true past s = refl
-after_due false true s = refl
-after_due false false s = refl
-
-after_waits : (becomes past : Bool) (s : Submission) → is_waiting (cond becomes (record s { state = Active; was_active = true }) (cond past (record s { state = Past }) s)) ≡ true → is_waiting s ≡ true
-after_waits true past s waits = absurd (cc)
-after_waits false true s waits = absurd (cc)
-after_waits false false s waits = waits
-
 round_waits : (w : World) → WaitsLess w.subs (round w).subs
 unfolding round
-round_waits w =
-    waits_map (after_round (is_ready w) (ready w)) w.subs
-    (λ s. after_due (is_ready w s) (is_active s && list_any (is_on s.submitted.id) (ready w)) s)
-    (λ s. after_waits (is_ready w s) (is_active s && list_any (is_on s.submitted.id) (ready w)) s)
+round_waits w = grind (arith, nat_tests, waits_map (after_round (is_ready w) (ready w)) w.subs)
 
 rounds_waits : (n : ℕ) (w : World) → WaitsLess w.subs (rounds n w).subs
 unfolding rounds
@@ -68,21 +46,9 @@ settle_waits : (w : World) → WaitsLess w.subs (settle w).subs
 unfolding settle
 settle_waits w = rounds_waits (length w.subs) w
 
-drop_due : (t : Bool) (s : Submission) → (cond t (record s { state = Dropped }) s).due ≡ s.due
-drop_due true s = refl
-drop_due false s = refl
-
-drop_waits : (t : Bool) (s : Submission) → is_waiting (cond t (record s { state = Dropped }) s) ≡ true → is_waiting s ≡ true
-drop_waits true s waits = absurd (cc)
-drop_waits false s waits = waits
-
 collect_waits : (w : World) → WaitsLess w.subs (collect w).subs
 unfolding collect clearing naming
-collect_waits w =
-    let lost = lost_in (naming w) in
-    waits_map (drop_on lost) w.subs
-    (λ s. drop_due ((is_waiting s || is_active s) && list_any (λ c. is_on c.id s) lost) s)
-    (λ s. drop_waits ((is_waiting s || is_active s) && list_any (λ c. is_on c.id s) lost) s)
+collect_waits w = grind (arith, nat_tests, waits_map)
 
 -- what waits behind an answer and what followed waited as that was settled
 outcome_waits : (presented : List Sub) (a : Answer) → WaitsLess (settle a.world).subs (outcome_of presented a).world.subs
@@ -111,13 +77,8 @@ outcome_tick presented a = settle_tick a.world
 abbrev pub NoneLate : World → Type 0
 NoneLate w = (s : Submission) → Contains w.subs s → is_waiting s ≡ true → w.tick < s.due
 
-or_none : (a b : Bool) → (a || b) ≡ false → b ≡ false
-or_none true b none = absurd (cc)
-or_none false b none = none
-
 and_none : (a b : Bool) → (a && b) ≡ false → a ≡ true → b ≡ false
-and_none true b none is = none
-and_none false b none is = absurd (cc)
+and_none a b none is = grind (arith, nat_tests)
 
 ready_none : (w : World) (s : Submission) → ready w ≡ [] → Contains w.subs s → is_waiting s ≡ true → w.tick < s.due
 unfolding ready has_come is_ready
@@ -150,21 +111,12 @@ abbrev pub latest : ℕ → List Submission → ℕ
 latest tick [] = 0
 latest tick (s ∷ subs) = max (cond (is_waiting s) (s.due - tick) 0) (latest tick subs)
 
-head_latest : (tick rest : ℕ) (t : Bool) (s : Submission) → t ≡ true → s.due - tick ≤ max (cond t (s.due - tick) 0) rest
-head_latest tick rest true s is = omega arith
-head_latest tick rest false s is = absurd (cc)
-
 latest_at : (tick : ℕ) (subs : List Submission) (s : Submission) → Contains subs s → is_waiting s ≡ true → s.due - tick ≤ latest tick subs
 latest_at tick [] s there waits = absurd (contains_none s there)
-latest_at tick (t ∷ subs) s there waits =
-    elim (contains_cases t s subs there) [
-      | inl same ↦ subst (λ (x : Submission). x.due - tick ≤ latest tick (t ∷ subs)) same (head_latest tick (latest tick subs) (is_waiting t) t (ap is_waiting same ∙ waits))
-      | inr rest ↦ (let less = latest_at tick subs s rest waits in omega (arith, less))
-    ]
+latest_at tick (t ∷ subs) s there waits = grind (arith, nat_tests, contains_cases t s subs there, latest_at tick subs s)
 
 head_least : (tick rest b : ℕ) (t : Bool) (s : Submission) → (t ≡ true → s.due - tick ≤ b) → rest ≤ b → max (cond t (s.due - tick) 0) rest ≤ b
-head_least tick rest b true s h k = omega (arith, h refl, k)
-head_least tick rest b false s h k = omega (arith, k)
+head_least tick rest b t s h k = grind (arith, nat_tests)
 
 latest_least : (tick b : ℕ) (subs : List Submission) → ((s : Submission) → Contains subs s → is_waiting s ≡ true → s.due - tick ≤ b) → latest tick subs ≤ b
 latest_least tick b [] h = omega arith

@@ -1,20 +1,15 @@
 -- That a tick is no later than so many begin-frames, and so each deadline that is waited for comes.
-use Rattle.std.proofs.Common.{◌≡◌, ℕ, zero, suc, ◌+◌, ◌≤◌, ◌==◌, Bool, true, false, not, List, [], ◌∷◌, ◌++◌, filter, refl, sym, ap, ◌∙◌, arith, cond}
+use Rattle.std.proofs.Common.{◌≡◌, ℕ, zero, suc, ◌+◌, ◌≤◌, Bool, true, false, not, List, [], ◌∷◌, ◌++◌, filter, refl, sym, ap, ◌∙◌, arith, cond}
 use Rattle.std.specs.Prelude.{count_by}
-use Rattle.std.proofs.lemmas.List.Sums.{sum_by-append}
+use Rattle.std.proofs.{lemmas.List.Sums.sum_by-append, lemmas.Bool.Decides.nat_tests}
 use Rattle.vz_base.specs.declared.limits.TheConstants.{LAST_TICK, GREATEST_DEADLINE}
-use Rattle.vz_rules.specs.declared.entry.Event.{Event}
+use Rattle.vz_rules.specs.{declared.entry.Event.Event, declared.entry.Entry.Entry, Messages.Answer, Messages.accepted, Messages.client_answer}
 use Rattle.vz_rules.specs.declared.entry.Event.TheVariants as event
-use Rattle.vz_rules.specs.declared.entry.Entry.{Entry}
 use Rattle.vz_rules.specs.Plan.{Plan, IsPlan}
-use Rattle.vz_rules.specs.World.{World, Client, opening}
-use Rattle.vz_rules.specs.Messages.{Answer, accepted, client_answer}
+use Rattle.vz_rules.specs.{World.World, World.Client, World.opening, Course.is_of_client, Course.is_begin, Course.displayed, Course.AreRounds}
 use Rattle.vz_rules.specs.Step.{begin_answer, answer_to, presented_by, step_in, world, Legal}
-use Rattle.vz_rules.specs.Course.{is_of_client, is_begin, displayed, AreRounds, IsShow}
-use Rattle.vz_rules.proofs.Cases.{client_cases, answer_cases, DisplayCases}
-use Rattle.vz_rules.proofs.Counts.{count_push, count_cons}
+use Rattle.vz_rules.proofs.{Cases.client_cases, Cases.answer_cases, Cases.DisplayCases, Counts.count_push, Counts.count_cons, Kept_planned.plan_world}
 use Rattle.vz_rules.proofs.Prefixes.{Steps, along}
-use Rattle.vz_rules.proofs.Kept_planned.{plan_world}
 use Rattle.vz_threads.specs.Tails.{AllComeDue}
 use Rattle.vz_threads.proofs.Coming_due.{outcome_tick}
 
@@ -48,25 +43,12 @@ ticks_client p w n =
       left = λ e. stays w.tick;
     })
 
-next_by : (t : Bool) (n : ℕ) → cond t n (n + 1) ≤ n + 1
-next_by true n = omega arith
-next_by false n = omega arith
-
 ticks_display : (p : Plan) (w : World) → DisplayCases p w (Ticks w)
 unfolding begin_answer
-ticks_display p w = record {
-  begins = next_by (w.tick == LAST_TICK) w.tick;
-  draws = λ r quiet last in_flight. stays w.tick;
-  dones = λ r quiet in_flight. stays w.tick;
-  overs = stays w.tick;
-}
+ticks_display p w = grind (arith, nat_tests, stays w.tick)
 
 same_test : (v : Event) → begins v ≡ (elim v [ event.Begin ↦ true | _ ↦ false ])
-same_test (event.Client c) = refl
-same_test event.Begin = refl
-same_test event.Draw = refl
-same_test event.Done = refl
-same_test event.Over = refl
+same_test v = grind (arith, nat_tests)
 
 -- an entry counts where its event is Begin
 counted_as : (e : Entry) (v : Event) → e.event ≡ v → ◌≡◌ {A = ℕ} (cond (begins v) 1 0) (cond (is_begin e) 1 0)
@@ -89,55 +71,24 @@ all_come_due p h is legal few s there waits = omega (arith, (plan_world p h is).
 
 -- How many begin-frames rounds have
 
-client_begins_not : (v : Event) → not (is_of_client v) ≡ false → (elim v [ event.Begin ↦ true | _ ↦ false ]) ≡ false
-client_begins_not (event.Client c) is = refl
-client_begins_not event.Begin is = absurd (cc)
-client_begins_not event.Draw is = refl
-client_begins_not event.Done is = refl
-client_begins_not event.Over is = refl
-
 -- the display's entries have all
 displayed_begins : (h : List Entry) → count_by is_begin (filter (λ (e : Entry). not (is_of_client e.event)) h) ≡ count_by is_begin h
 displayed_begins [] = refl
-displayed_begins (e ∷ h) =
-    elim (not (is_of_client e.event)) as (λ (t : Bool). not (is_of_client e.event) ≡ t
-    → count_by is_begin (cond t (e ∷ filter (λ (x : Entry). not (is_of_client x.event)) h) (filter (λ (x : Entry). not (is_of_client x.event)) h)) ≡ count_by is_begin (e ∷ h)) [
-      | true ↦ λ is. omega (arith, count_cons is_begin e (filter (λ (x : Entry). not (is_of_client x.event)) h), count_cons is_begin e h, displayed_begins h)
-      | false ↦ λ is. (let none : ◌≡◌ {A = ℕ} (cond (is_begin e) 1 0) 0 = ap {B = ℕ} (λ (t : Bool). cond t 1 0) (client_begins_not e.event is) in
-          omega (arith, count_cons is_begin e h, none, displayed_begins h))
-    ] refl
+displayed_begins (e ∷ h) = grind (arith, nat_tests, count_cons is_begin e, count_cons is_begin e h, displayed_begins h)
 
 begins_none : (e : Entry) (v : Event) → e.event ≡ v → begins v ≡ false → ◌≡◌ {A = ℕ} (cond (is_begin e) 1 0) 0
 begins_none e v is none = sym (counted_as e v is) ∙ ap {B = ℕ} (λ (t : Bool). cond t 1 0) none
 
-show_begins : (es : List Entry) → IsShow es → count_by is_begin es ≡ 0
-show_begins [] is = absurd is
-show_begins (d ∷ []) is = let one : ◌≡◌ {A = ℕ} (cond (is_begin d) 1 0) 0 = begins_none d event.Draw is.0 refl in omega (arith, count_cons is_begin d [], one)
-show_begins (d ∷ e ∷ []) is =
-    let one : ◌≡◌ {A = ℕ} (cond (is_begin d) 1 0) 0 = begins_none d event.Draw is.0 refl in
-    let two : ◌≡◌ {A = ℕ} (cond (is_begin e) 1 0) 0 = begins_none e event.Done is.2 refl in
-    omega (arith, count_cons is_begin d (e ∷ []), count_cons is_begin e [], one, two)
-show_begins (d ∷ e ∷ f ∷ es) is = absurd is
-
-count_append : (t : Entry → Bool) (xs ys : List Entry) → count_by t (xs ++ ys) ≡ count_by t xs + count_by t ys
-count_append t xs ys = sum_by-append (λ (e : Entry). cond (t e) 1 0) xs ys
-
 rounds_begins : (n : ℕ) (es : List Entry) → AreRounds n es → count_by is_begin es ≡ n
 rounds_begins zero es is = ap (count_by is_begin) is
-rounds_begins (suc n) es is =
-    let one : ◌≡◌ {A = ℕ} (cond (is_begin is.0) 1 0) 1 = sym (counted_as is.0 event.Begin is.4) in
-    ap (count_by is_begin) is.3
-    ∙ omega (arith, count_cons is_begin is.0 (is.1 ++ is.2), count_append is_begin is.1 is.2, one, show_begins is.1 is.5, rounds_begins n is.2 is.6)
+rounds_begins (suc n) es is = grind (arith, nat_tests, counted_as is.0, count_cons is_begin is.0, sum_by-append, begins_none, count_cons, rounds_begins n is.2 is.6)
 
 -- rounds and Over have as many as there are rounds
 pub begins_of_rounds : (h first : List Entry) (over : Entry) (rounds : ℕ) → displayed h ≡ first ++ over ∷ [] → AreRounds rounds first → over.event ≡ event.Over → count_by is_begin h ≡ rounds
 unfolding displayed
-begins_of_rounds h first over rounds all rounded ended =
-    let none : ◌≡◌ {A = ℕ} (cond (is_begin over) 1 0) 0 = begins_none over event.Over ended refl in
-    sym (displayed_begins h) ∙ (ap (count_by is_begin) all ∙ omega (arith, count_push is_begin first over, none, rounds_begins rounds first rounded))
+begins_of_rounds h first over rounds all rounded ended = grind (arith, nat_tests, begins_none over, displayed_begins h, count_push is_begin first over, rounds_begins rounds first rounded)
 
 -- so behind few enough rounds each deadline that is waited for comes
 pub rounds_come_due : (p : Plan) (h first : List Entry) (over : Entry) (rounds : ℕ) → IsPlan p → Legal p h → displayed h ≡ first ++ over ∷ [] → AreRounds rounds first → over.event ≡ event.Over
     → rounds + GREATEST_DEADLINE ≤ LAST_TICK → AllComeDue (world p h)
-rounds_come_due p h first over rounds is legal all rounded ended few =
-    all_come_due p h is legal (omega (arith, begins_of_rounds h first over rounds all rounded ended, few))
+rounds_come_due p h first over rounds is legal all rounded ended few = grind (arith, nat_tests, all_come_due p h is legal, begins_of_rounds h first over rounds all rounded ended)

@@ -1,18 +1,12 @@
 -- A crew whose ends change one by one.
-use Rattle.std.specs.Prelude.{reverse}
-use Rattle.std.proofs.Common.{◌≡◌, ℕ, zero, suc, ◌+◌, ◌<◌, ◌≤◌, List, [], ◌∷◌, ◌++◌, map, take, drop, set, get_or, length, refl, ap, sym, ◌∙◌, subst, arith, append_assoc, append-nil}
+use Rattle.std.proofs.Common.{◌≡◌, ℕ, zero, suc, ◌+◌, ◌<◌, ◌≤◌, List, [], ◌∷◌, ◌++◌, map, take, drop, set, get_or, length, refl, ap, sym, ◌∙◌, subst, arith, append_assoc}
 use Rattle.std.proofs.lemmas.List.{reverse-append, set_split, take_all, take-append-le, length-map}
-use mathlib.Core.List.{map-append}
 use Rattle.atomic_table.specs.Seated.{TableId}
 use Rattle.vz_loans.proofs.Closing.{Each, each_of, all_of}
-use Rattle.vz_frame.specs.declared.message.ClientFile.{ClientFile}
-use Rattle.vz_desk.specs.declared.totals.Totals.{Totals}
-use Rattle.vz_desk.specs.Owners.{Owner}
+use Rattle.vz_desk.specs.{declared.totals.Totals.Totals, Owners.Owner}
 use Rattle.vz_threads.specs.declared.crew.Started.{Started}
 use Rattle.vz_threads.specs.Crews.{messages_of, IsAtWork, MayTake, WorksOn, IsCrew, CrewWorksOn, IsInCrew, HasTakenAll, end_of, crew_of}
-
-number_of : Owner Totals → ℕ
-number_of o = o.number
+use Rattle.std.proofs.{lemmas.Bool.Decides.nat_tests, lemmas.Grind.common_steps}
 
 module _ (P : Owner Totals → Type 0) (x y : Owner Totals) (behind : List (Owner Totals)) where
   each_changes : (before : List (Owner Totals)) → (P x → P y) → Each P (before ++ x ∷ behind) → Each P (before ++ y ∷ behind)
@@ -55,22 +49,16 @@ in_crew_may id messages o count c e = record { plan = c.plan; work = c.work; all
 
 module _ {M P T : Type 0} where
   crew_split : (us vs : List (Started M P T)) (s : Started M P T) → crew_of (us ++ s ∷ vs) ≡ crew_of vs ++ end_of s ∷ crew_of us
-  crew_split us vs s =
-      ap (map end_of) (reverse-append us (s ∷ vs) ∙ ap (λ (l : List (Started M P T)). l ++ reverse us) (reverse-append (s ∷ []) vs) ∙ append_assoc (reverse vs) (s ∷ []) (reverse us))
-      ∙ map-append end_of (reverse vs) (s ∷ reverse us)
+  crew_split us vs s = grind (arith, nat_tests, common_steps, reverse-append us (s ∷ vs), reverse-append (s ∷ []) vs)
 
   -- One is started
-
-  pub start_begins : (all : List (Owner Totals)) (started : List (Started M P T)) → started ≡ [] → CrewWorksOn all (all ++ crew_of started)
-  start_begins all started none = subst (λ (l : List (Owner Totals)). CrewWorksOn all l) (sym (ap (λ (ss : List (Started M P T)). all ++ crew_of ss) none ∙ append-nil all)) (crew_same all)
 
   start_split : (ends left : List (Owner Totals)) (x : Owner Totals) (started : List (Started M P T)) → ends ≡ left ++ x ∷ [] → ends ++ crew_of started ≡ left ++ x ∷ crew_of started
   start_split ends left x started is = ap (λ (l : List (Owner Totals)). l ++ crew_of started) is ∙ append_assoc left (x ∷ []) (crew_of started)
 
   pub start_one : (id : TableId) (messages : List ℕ) (all ends left : List (Owner Totals)) (x : Owner Totals) (started : List (Started M P T)) → IsCrew id messages all
       → CrewWorksOn all (ends ++ crew_of started) → ends ≡ left ++ x ∷ [] → IsInCrew id messages x
-  start_one id messages all ends left x started c w is =
-      crew_one id messages left (crew_of started) x (subst (IsCrew id messages) (start_split ends left x started is) (crew_on id messages all (ends ++ crew_of started) c w))
+  start_one id messages all ends left x started c w is = grind (arith, nat_tests, crew_one id messages left (crew_of started) x, start_split ends left x started is, crew_on id messages all)
 
   pub start_goes : (all ends left : List (Owner Totals)) (x : Owner Totals) (started more : List (Started M P T)) (s : Started M P T) → CrewWorksOn all (ends ++ crew_of started) → ends ≡ left ++ x ∷ []
       → WorksOn x (end_of s) → more ≡ started ++ s ∷ [] → CrewWorksOn all (left ++ crew_of more)
@@ -78,9 +66,6 @@ module _ {M P T : Type 0} where
       crew_then all (left ++ x ∷ crew_of started) (left ++ crew_of more) (subst (CrewWorksOn all) (start_split ends left x started is) c)
       (subst (λ (l : List (Owner Totals)). CrewWorksOn (left ++ x ∷ crew_of started) (left ++ l)) (sym (ap crew_of more_is ∙ crew_split started [] s))
       (crew_changes left (crew_of started) x (end_of s) w))
-
-  pub start_ends : (all ends : List (Owner Totals)) (started : List (Started M P T)) → CrewWorksOn all (ends ++ crew_of started) → ends ≡ [] → CrewWorksOn all (crew_of started)
-  start_ends all ends started c none = subst (λ (l : List (Owner Totals)). CrewWorksOn all (l ++ crew_of started)) none c
 
   -- One is waited for
 
@@ -90,9 +75,6 @@ module _ {M P T : Type 0} where
       crew_then all (ends ++ end_of s ∷ crew_of left) (more ++ crew_of left)
       (subst (λ (l : List (Owner Totals)). CrewWorksOn all (ends ++ l)) (ap crew_of is ∙ crew_split left [] s) c)
       (subst (CrewWorksOn (ends ++ end_of s ∷ crew_of left)) (sym (start_split more ends e left more_is)) (crew_changes ends (crew_of left) (end_of s) e w))
-
-  pub finish_ends : (all ends : List (Owner Totals)) (started : List (Started M P T)) → CrewWorksOn all (ends ++ crew_of started) → started ≡ [] → CrewWorksOn all ends
-  finish_ends all ends started c none = subst (CrewWorksOn all) (ap (λ (ss : List (Started M P T)). ends ++ crew_of ss) none ∙ append-nil ends) c
 
 -- An end is changed where it stands
 
@@ -134,9 +116,7 @@ pub crew_goes : (given now : List (Owner Totals)) (i : ℕ) (d y : Owner Totals)
 crew_goes given now i d y c l w = crew_then given now (set now i y) c (crew_set now i d y l w)
 
 pub in_files : (id : TableId) (messages : List ℕ) (o : Owner Totals) → IsInCrew id messages o → (1 ≤ o.number) × (o.number ≤ length messages)
-in_files id messages o c =
-    let all : length messages ≡ length c.plan.files = ap length c.counts ∙ length-map c.plan.files (λ (file : ClientFile). length file.messages) in
-    (c.work.client.0, omega (arith, all, c.work.client.1))
+in_files id messages o c = grind (arith, nat_tests, length-map)
 
 pub took_all : (messages : List ℕ) (count : ℕ) (old new : Owner Totals) → WorksOn old new → count ≡ messages_of messages old.number → new.totals.taken ≡ count → HasTakenAll messages new
 took_all messages count old new w of all = all ∙ of ∙ ap (messages_of messages) (sym w.number)

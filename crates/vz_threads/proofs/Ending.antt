@@ -1,23 +1,16 @@
 -- That a history with the display's tail behind it is one of a run.
-use Rattle.std.proofs.Common.{◌≡◌, ℕ, zero, suc, ◌+◌, ◌<◌, ◌≤◌, ◌⊎◌, ◌==◌, not, Bool, true, false, inl, inr, Some, List, [], ◌∷◌, ◌++◌, length, take, filter, refl, sym, ap, subst, ◌∙◌, arith, append_assoc, append-nil, slice_get, Contains}
-use Rattle.std.specs.Prelude.{IsTrue, IsFalse, count_by}
-use Rattle.std.specs.List.{list_all}
-use Rattle.std.proofs.Math.Seq.{take-append-add}
-use Rattle.std.proofs.lemmas.Bool.{and_parts, and_from}
-use Rattle.std.proofs.lemmas.List.{length-append, take_all, take-append-le}
-use Rattle.std.proofs.lemmas.List.Elements.{filter-append}
-use Rattle.std.proofs.lemmas.List.Folds.{list_all-append}
-use Rattle.vz_rules.specs.Plan.{Plan}
-use Rattle.vz_rules.specs.declared.entry.Event.{Event}
+use Rattle.std.proofs.Common.{◌≡◌, ℕ, zero, suc, ◌+◌, ◌<◌, ◌≤◌, ◌⊎◌, not, Bool, true, false, inl, inr, Some, List, [], ◌∷◌, ◌++◌, length, take, filter, refl, sym, ap, subst, ◌∙◌, arith, slice_get, Contains}
+use Rattle.std.specs.{Prelude.IsTrue, Prelude.IsFalse, Prelude.count_by, List.list_all}
+use Rattle.std.proofs.{Math.Seq.take-append-add, lemmas.List.Elements.filter-append, lemmas.List.Folds.list_all-append, lemmas.Bool.Decides.nat_tests}
+use Rattle.std.proofs.{lemmas.Bool.and_parts, lemmas.Bool.and_from, lemmas.List.length-append, lemmas.List.take_all, lemmas.List.take-append-le}
+use Rattle.vz_rules.specs.{Plan.Plan, Step.world}
+use Rattle.vz_rules.specs.{declared.entry.Event.Event, declared.entry.Entry.Entry, Whole.is_of, Whole.mine, Whole.is_in_time, Accounts.takes}
 use Rattle.vz_rules.specs.declared.entry.Event.TheVariants as event
-use Rattle.vz_rules.specs.declared.entry.Entry.{Entry}
-use Rattle.vz_rules.specs.Step.{world}
 use Rattle.vz_rules.specs.Course.{is_of_client, is_begin, is_draw, is_calm, displayed, IsShow, AreRounds, AreBegins, IsCourse, StandsAt, some_waits, EndsAfterOver, IsPaced}
-use Rattle.vz_rules.specs.Whole.{is_of, mine, is_in_time}
-use Rattle.vz_rules.specs.Accounts.{takes}
 use Rattle.vz_rules.proofs.Members.{at_contains, at_within, contains_cases, contains_none, append_contains, filter_has, filter_none, none_filtered, all_at}
 use Rattle.vz_threads.specs.Tails.{IsTail}
 use Rattle.vz_threads.proofs.Places.{at_append, filter_all, EndsFiltered, ends_filtered}
+use Rattle.std.proofs.lemmas.Grind.{common_steps}
 
 -- The display's entries
 
@@ -30,11 +23,7 @@ abbrev pub AreShown : List Entry → Type 0
 AreShown es = IsTrue (list_all is_shown es)
 
 begin_by : (v : Event) → (elim v [ event.Begin ↦ true | _ ↦ false ]) ≡ true → v ≡ event.Begin
-begin_by (event.Client c) is = absurd (cc)
-begin_by event.Begin is = refl
-begin_by event.Draw is = absurd (cc)
-begin_by event.Done is = absurd (cc)
-begin_by event.Over is = absurd (cc)
+begin_by v is = grind (arith, nat_tests)
 
 -- an entry of Begin
 begin_event : (e : Entry) → is_begin e ≡ true → e.event ≡ event.Begin
@@ -45,35 +34,21 @@ shown_as e v is same = ap (λ u. not (is_of_client u)) same ∙ is
 
 pub begins_shown : (es : List Entry) → AreBegins es → AreShown es
 begins_shown [] all = refl
-begins_shown (e ∷ es) all =
-    let both = and_parts (is_begin e) (list_all is_begin es) all in
-    and_from (is_shown e) (list_all is_shown es) (shown_as e event.Begin refl (begin_event e both.0)) (begins_shown es both.1)
+begins_shown (e ∷ es) all = grind (arith, nat_tests, and_parts (is_begin e) (list_all is_begin es) all, and_from (is_shown e) (list_all is_shown es), shown_as e, begin_event e, begins_shown es)
 
 pub show_shown : (es : List Entry) → IsShow es → AreShown es
 show_shown [] is = absurd is
 show_shown (d ∷ []) is = and_from (is_shown d) true (shown_as d event.Draw refl is.0) refl
-show_shown (d ∷ e ∷ []) is =
-    and_from (is_shown d) (list_all is_shown (e ∷ [])) (shown_as d event.Draw refl is.0) (and_from (is_shown e) true (shown_as e event.Done refl is.2) refl)
+show_shown (d ∷ e ∷ []) is = grind (arith, nat_tests, and_from (is_shown d) (list_all is_shown (e ∷ [])), shown_as d, and_from (is_shown e) true, shown_as e)
 show_shown (d ∷ e ∷ f ∷ es) is = absurd is
 
 pub tail_shown : (begins last : List Entry) → AreBegins begins → IsShow last → AreShown (begins ++ last)
-tail_shown begins last first then =
-    list_all-append is_shown begins last ∙ and_from (list_all is_shown begins) (list_all is_shown last) (begins_shown begins first) (show_shown last then)
-
--- an entry of the display is no client's
-not_mine : (c : ℕ) (v : Event) → not (is_of_client v) ≡ true → (elim v [ event.Client d ↦ d == c | _ ↦ false ]) ≡ false
-not_mine c (event.Client d) is = absurd (cc)
-not_mine c event.Begin is = refl
-not_mine c event.Draw is = refl
-not_mine c event.Done is = refl
-not_mine c event.Over is = refl
+tail_shown begins last first then = grind (arith, nat_tests, list_all-append, and_from, begins_shown, show_shown)
 
 -- the display's entries leave those of a client
 pub mine_stay : (h tail : List Entry) (c : ℕ) → AreShown tail → mine (h ++ tail) c ≡ mine h c
 unfolding mine
-mine_stay h tail c shown =
-    filter-append (is_of c) h tail
-    ∙ (ap (λ l. filter (is_of c) h ++ l) (filter_none (is_of c) tail (λ (x : Entry) there. not_mine c x.event (all_at is_shown tail x shown there))) ∙ append-nil (filter (is_of c) h))
+mine_stay h tail c shown = grind (arith, nat_tests, common_steps, filter-append (is_of c) h tail, filter_none (is_of c) tail, all_at is_shown tail)
 
 pub takes_stay : (h tail : List Entry) (c : ℕ) → AreShown tail → takes (h ++ tail) c ≡ takes h c
 unfolding takes
@@ -83,20 +58,7 @@ takes_stay h tail c shown = ap (filter (λ (e : Entry). is_in_time e.reply)) (mi
 pub course_is : (rounds : ℕ) (h begins last first : List Entry) (over : Entry) → AreBegins begins → IsShow last → displayed h ≡ first ++ over ∷ [] → AreRounds rounds first → over.event ≡ event.Over
     → IsCourse rounds (displayed (h ++ (begins ++ last)))
 unfolding displayed
-course_is rounds h begins last first over begun shown all rounded ended =
-    record {
-      first = first;
-      over = over;
-      begins = begins;
-      last = last;
-      all = filter-append is_shown h (begins ++ last)
-          ∙ (ap (λ l. filter is_shown h ++ l) (filter_all is_shown (begins ++ last) (tail_shown begins last begun shown))
-          ∙ (ap (λ l. l ++ (begins ++ last)) all ∙ append_assoc first (over ∷ []) (begins ++ last)));
-      are_rounds = rounded;
-      is_over = ended;
-      are_begins = begun;
-      is_show = shown;
-    }
+course_is rounds h begins last first over begun shown all rounded ended = grind (arith, nat_tests, common_steps, filter-append is_shown h, filter_all is_shown, tail_shown begins last begun shown)
 
 -- What stands behind Over
 
@@ -174,31 +136,16 @@ module _ (h tail : List Entry) (rounds : ℕ) (first : List Entry) (over : Entry
       ]
 
 show_at : (last : List Entry) (j : ℕ) (x : Entry) → IsShow last → slice_get last j ≡ Some x → ((j ≡ 0) × (x.event ≡ event.Draw)) ⊎ (x.event ≡ event.Done)
-show_at [] j x is at = absurd is
-show_at (d ∷ []) zero x is at = inl (refl, (let same : d ≡ x = cc in ap (λ (y : Entry). y.event) (sym same) ∙ is.0))
-show_at (d ∷ []) (suc j) x is at = absurd (cc)
-show_at (d ∷ e ∷ []) zero x is at = inl (refl, (let same : d ≡ x = cc in ap (λ (y : Entry). y.event) (sym same) ∙ is.0))
-show_at (d ∷ e ∷ []) (suc zero) x is at = inr (let same : e ≡ x = cc in ap (λ (y : Entry). y.event) (sym same) ∙ is.2)
-show_at (d ∷ e ∷ []) (suc (suc j)) x is at = absurd (cc)
-show_at (d ∷ e ∷ f ∷ es) j x is at = absurd is
+show_at last j x is at = grind (arith, nat_tests)
 
 -- what stands before a place of the tail
 before_tail : (h begins last : List Entry) (n k : ℕ) → n ≡ length h + k → k ≤ length begins → take n (h ++ (begins ++ last)) ≡ h ++ take k begins
-before_tail h begins last n k at within =
-    ap (λ i. take i (h ++ (begins ++ last))) at ∙ (take-append-add h (begins ++ last) k ∙ ap (λ l. h ++ l) (take-append-le k begins last within))
+before_tail h begins last n k at within = grind (arith, nat_tests, take-append-add h, take-append-le k begins last within)
 
 module _ (p : Plan) (h begins last : List Entry) (tail : IsTail p h begins last) where
   -- a Begin of the tail comes where some submission waits
   begin_waits : (n k : ℕ) (x : Entry) → n ≡ length h + k → slice_get (begins ++ last) k ≡ Some x → x.event ≡ event.Begin → IsTrue (some_waits (world p (take n (h ++ (begins ++ last)))))
-  begin_waits n k x at there is =
-      elim (at_append begins last k x there) [
-        | inl here ↦ (let within : k < length begins = at_within begins k x here in
-            ap (λ l. some_waits (world p l)) (before_tail h begins last n k at (omega (arith, within))) ∙ tail.begun.wait k within)
-        | inr far ↦ elim (show_at last far.0 x tail.is_show far.2) [
-          | inl draw ↦ absurd (let e : event.Begin ≡ event.Draw = sym is ∙ draw.1 in cc)
-          | inr done ↦ absurd (let e : event.Begin ≡ event.Done = sym is ∙ done in cc)
-        ]
-      ]
+  begin_waits n k x at there is = grind (arith, nat_tests, at_append begins last k x there, at_within begins k x, before_tail h begins last n k at, show_at last)
 
   -- the drawing of the tail comes where none does
   draw_waits_not : (n k : ℕ) (x : Entry) → n ≡ length h + k → slice_get (begins ++ last) k ≡ Some x → x.event ≡ event.Draw → IsFalse (some_waits (world p (take n (h ++ (begins ++ last)))))

@@ -5,42 +5,28 @@ use Rattle.vz_geom.specs.declared.Size.{Size}
 use Rattle.vz_pixels.specs.Colour.{Colour}
 use Rattle.vz_outside.specs.Shelved.{Shelved, Name, Writing, KeepsOthers, Appends, AppendsFront, Behaves, with_more}
 use Rattle.vz_outside.specs.declared.shelf.ShelfError.{ShelfError}
-use Rattle.vz_outside.proofs.Calls.{Ran, ran_one}
-use Rattle.vz_rules.specs.Plan.{Plan, IsPlan}
-use Rattle.vz_rules.specs.declared.entry.Entry.{Entry}
-use Rattle.vz_rules.specs.Step.{Legal, world}
+use Rattle.vz_outside.proofs.{Calls.Ran, Calls.ran_one, Behaving.then_behaves, Behaving.behaves_as}
+use Rattle.vz_rules.specs.{Plan.Plan, Plan.IsPlan, declared.entry.Entry.Entry, Step.Legal, Step.world}
 use Rattle.vz_rules.specs.Frames.{written, painted, frames_bytes, drawn_frames, drawn_frames_from}
 use Rattle.vz_display.specs.Displayed.{first_displayed, display_at}
 use Rattle.vz_display.proofs.Drawings.{first_is}
-use Rattle.vz_player.specs.Played.{Played, played_at, frames_of as frames_by}
-use Rattle.vz_player.specs.Taken.{AddsFrames}
-use Rattle.vz_player.proofs.Adding.{HasAdded, more_added, front_added, others_kept}
-use Rattle.vz_outside.proofs.Behaving.{then_behaves, behaves_as}
-use Rattle.vz_player.proofs.Growing.{frames_then_frames}
-use Rattle.vz_threads.specs.Courses.{IsRun, frames_of}
-use Rattle.vz_threads.specs.Outlets.{Outlook, file_of}
+use Rattle.vz_player.specs.{Played.Played, Played.played_at, Taken.AddsFrames}
+use Rattle.vz_player.proofs.{Adding.HasAdded, Adding.more_added, Adding.front_added, Adding.others_kept, Growing.frames_then_frames}
+use Rattle.vz_threads.specs.{Courses.IsRun, Courses.frames_of, Outlets.Outlook, Outlets.file_of, Tails.AddsTail, Tails.AllComeDue}
 use Rattle.vz_threads.specs.Rounds.{Setup, MayBegin}
 use Rattle.vz_threads.specs.Runs.{IsReady, IsUpToTail, IsCutThere, HasRun, EndsWithTail, WritesMore, WritesMoreFront}
-use Rattle.vz_threads.specs.Tails.{AddsTail, AllComeDue}
-use Rattle.vz_threads.proofs.Counted_ticks.{rounds_come_due}
-use Rattle.vz_threads.proofs.Taken_all.{run_is}
-
--- what holds at any error, and where all is well
-pub err_any : {T E : Type 0} (r : Result T E) (P : Type 0) → P → OnErr r P
-err_any (Ok x) P p = tt
-err_any (Err e) P p = p
+use Rattle.vz_threads.proofs.{Counted_ticks.rounds_come_due, Taken_all.run_is}
+pub use Rattle.vz_outside.proofs.Behaving.{on_err as err_any}
+use Rattle.std.proofs.{lemmas.Bool.Decides.nat_tests, lemmas.Grind.common_steps}
 
 pub ok_then : {T E : Type 0} (r : Result T E) (A P : Type 0) → OnOk r A → (A → P) → OnOk r P
-ok_then (Ok x) A P a f = f a
-ok_then (Err e) A P a f = tt
+ok_then r _ _ a f = grind (arith, nat_tests)
 
 pub ok_both : {T E : Type 0} (r : Result T E) (A B P : Type 0) → OnOk r A → OnOk r B → (A → B → P) → OnOk r P
-ok_both (Ok x) A B P a b f = f a b
-ok_both (Err e) A B P a b f = tt
+ok_both r _ _ _ a b f = grind (arith, nat_tests)
 
 pub err_then : {T E : Type 0} (r : Result T E) (A P : Type 0) → OnErr r A → (A → P) → OnErr r P
-err_then (Ok x) A P a f = tt
-err_then (Err e) A P a f = f a
+err_then r _ _ a f = grind (arith, nat_tests)
 
 -- all of it is a front part
 pub whole_front : (all : List ℕ) (name : Name) (a b : Shelved) → Appends all name a b → AppendsFront all name a b
@@ -49,16 +35,7 @@ whole_front all name a b added told = (length all, omega arith, added told ∙ a
 -- the frames that a tail writes are a front part of them, where what is out could not be told
 pub tail_front : (p : Plan) (n : ℕ) (h hist : List Entry) (old new : Played) (name : Name) (a b : Shelved) → old ≡ played_at p h n → AddsTail old new → AddsFrames old new name a b → hist ≡ new.history
     → WritesMoreFront p n name h hist a b
-tail_front p n h hist old new name a b is tail adds same = (adds.0, more, whole_front (frames_bytes adds.0) name a b adds.2)
-  where
-    plan : new.plan ≡ p
-    plan = ap (λ (x : Played). x.plan) tail.grown ∙ ap (λ (x : Played). x.plan) is
-
-    buffers : new.buffers ≡ n
-    buffers = ap (λ (x : Played). x.buffers) tail.grown ∙ ap (λ (x : Played). x.buffers) is
-
-    more : written p hist n ≡ written p h n ++ adds.0
-    more = (λ i. written (sym plan i) (same i) (sym buffers i)) ∙ adds.1 ∙ ap (λ (l : List (List Colour)). l ++ adds.0) (ap frames_by is)
+tail_front p n h hist old new name a b is tail adds same = grind (arith, nat_tests, common_steps)
 
 -- Before the threads
 
@@ -88,9 +65,7 @@ module _ (k : Setup) (rounds : ℕ) (paced : Bool) (start now : Outlook) (h : Li
 
   -- with a tail it is a run
   pub run_whole : (hist : List Entry) → Legal k.plan hist → EndsWithTail k.plan h hist → IsRun k.plan rounds paced hist
-  run_whole hist good t =
-      subst (IsRun k.plan rounds paced) (sym t.all)
-      (run_is k.plan rounds paced h t.begins t.last w.first w.over (subst (Legal k.plan) t.all good) t.tail w.all w.made w.is_over w.pace w.took)
+  run_whole hist good t = grind (arith, nat_tests, run_is k.plan rounds paced h t.begins t.last w.first w.over (subst (Legal k.plan) t.all good) t.tail w.all w.made w.is_over w.pace w.took)
 
   added : HasAdded (frames_of k.plan h k.buffers) start.fixed.slot start.shelf now.shelf
   added = record { opened = begins.opened; ran = ran_one tt start.shelf now.shelf w.shown.behaves; appended = w.shown.written; others = w.shown.others }
@@ -101,8 +76,7 @@ module _ (k : Setup) (rounds : ℕ) (paced : Bool) (start now : Outlook) (h : Li
   -- all frames are written
   pub all_written : (hist : List Entry) (final : Shelved) → Ran now.shelf final → KeepsOthers (now.shelf.name start.fixed.slot) now.shelf final → WritesMore k.plan k.buffers (now.shelf.name start.fixed.slot) h hist now.shelf final
       → Appends (frames_of k.plan hist k.buffers) (file_of start) start.shelf final
-  all_written hist final ran others m =
-      (more_added start.fixed.slot (frames_of k.plan h k.buffers) start.shelf now.shelf final added (frames_bytes m.0) (frames_of k.plan hist k.buffers) m.2 others ran (more_bytes hist m.0 m.1)).appended
+  all_written hist final ran others m = grind (arith, nat_tests, more_added, added, more_bytes)
 
   -- or a front part of them
   pub front_written : (hist : List Entry) (final : Shelved) → WritesMoreFront k.plan k.buffers (now.shelf.name start.fixed.slot) h hist now.shelf final → AppendsFront (frames_of k.plan hist k.buffers) (file_of start) start.shelf final
@@ -121,8 +95,7 @@ module _ (k : Setup) (rounds : ℕ) (paced : Bool) (start now : Outlook) (h : Li
 
 -- an answer that is well behaves as one that went through
 pub ok_ran : {T : Type 0} (r : Result T ShelfError) (a b : Shelved) → Behaves a b r → OnOk r (Ran a b)
-ok_ran (Ok x) a b behaves = ran_one x a b behaves
-ok_ran (Err e) a b behaves = tt
+ok_ran r a b behaves = grind (arith, nat_tests, ran_one)
 
 -- an error of the threads' part is one of the run
 pub cut_behaves : {T : Type 0} (e : ShelfError) (a b : Shelved) → Behaves {T = Unit {0}} a b (Err e) → Behaves {T = T} a b (Err e)

@@ -1,18 +1,14 @@
 -- How the display's rounds follow one another.
-use Rattle.std.proofs.Common.{◌⊎◌, inl, inr, ℕ, Bool, List, [], ◌∷◌, ◌++◌, refl, ap, sym, ◌∙◌, subst, append-nil, append_assoc, Result, Err}
+use Rattle.std.proofs.Common.{◌⊎◌, inl, inr, ℕ, Bool, List, [], ◌∷◌, ◌++◌, refl, ap, sym, ◌∙◌, subst, append-nil, append_assoc, Result, Err, arith}
 use mathlib.Core.List.{IsPrefix}
-use Rattle.vz_outside.specs.declared.shelf.ShelfError.{ShelfError}
-use Rattle.vz_outside.specs.declared.shelf.ShelfError.TheVariants.{Memory}
+use Rattle.vz_outside.specs.{declared.shelf.ShelfError.ShelfError, declared.shelf.ShelfError.TheVariants.Memory}
 use Rattle.vz_rules.specs.declared.entry.Event.TheVariants as event
-use Rattle.vz_rules.specs.declared.entry.Entry.{Entry}
-use Rattle.vz_rules.specs.Course.{displayed, IsPaced}
-use Rattle.vz_desk.specs.Owners.{Owner, IsSameOwner, MakesNone}
-use Rattle.vz_desk.specs.Totals.{DisplayTotals}
-use Rattle.vz_desk.specs.Displays.{Displays}
+use Rattle.vz_rules.specs.{declared.entry.Entry.Entry, Course.displayed, Course.IsPaced}
+use Rattle.vz_desk.specs.{Owners.Owner, Owners.IsSameOwner, Owners.MakesNone, Totals.DisplayTotals, Displays.Displays}
 use Rattle.vz_threads.specs.Outlets.{Outlook}
 use Rattle.vz_threads.specs.Rounds.{Setup, IsAt, IsCut, HasPlayed, HasBegun, HasEnded}
-use Rattle.vz_threads.proofs.Ending.{paced_on}
-use Rattle.vz_threads.proofs.Rounding.{begun_goes, over_goes, event_is, cut_here}
+use Rattle.vz_threads.proofs.{Ending.paced_on, Rounding.begun_goes, Rounding.over_goes, Rounding.event_is, Rounding.cut_here}
+use Rattle.std.proofs.{lemmas.Bool.Decides.nat_tests, lemmas.Grind.common_steps}
 
 pub same_self : (d : Owner DisplayTotals) → IsSameOwner d d
 same_self d = record { desk = refl; plan = refl; number = refl; later = ([], append-nil d.seen) }
@@ -25,26 +21,11 @@ pub prefix_then : {A : Type 0} (xs ys zs : List A) → IsPrefix xs ys → IsPref
 prefix_then xs ys zs a b = (a.0 ++ b.0, sym (append_assoc xs a.0 b.0) ∙ ap (λ l. l ++ b.0) a.1 ∙ b.1)
 
 pub same_then : (a b c : Owner DisplayTotals) → IsSameOwner a b → IsSameOwner b c → IsSameOwner a c
-same_then a b c x y = record {
-  desk = y.desk ∙ x.desk;
-  plan = y.plan ∙ x.plan;
-  number = y.number ∙ x.number;
-  later = prefix_then a.seen b.seen c.seen x.later y.later;
-}
+same_then a b c x y = grind (arith, nat_tests, prefix_then a.seen b.seen c.seen x.later y.later)
 
 -- cut short still, where the display makes no entry more
 pub cut_later : (k : Setup) (start now : Outlook) (d d' : Owner DisplayTotals) (h : List Entry) (r : Result (Unit {0}) ShelfError) → IsCut k start now d h r → IsSameOwner d d' → MakesNone d d' → IsCut k start now d' h r
-cut_later k start now d d' h r cut same none = record {
-  display = same.number ∙ cut.display;
-  planned = same.plan ∙ cut.planned;
-  later = prefix_then _ _ _ cut.later same.later;
-  mine = none.mine ∙ cut.mine;
-  rests = ap (λ (t : DisplayTotals). t.in_flight) none.totals ∙ cut.rests;
-  fixed = cut.fixed;
-  begun = cut.begun;
-  others = cut.others;
-  behaves = cut.behaves;
-}
+cut_later k start now d d' h r cut same none = grind (arith, nat_tests, common_steps, prefix_then)
 
 -- the history that a begin-frame leaves
 pub begun_at : (k : Setup) (start now : Outlook) (d d' : Owner DisplayTotals) (h : List Entry) → IsAt k start now d h → IsSameOwner d d' → (x : Displays d d' event.Begin) → IsAt k start now d' (x.before ++ x.made ∷ [])

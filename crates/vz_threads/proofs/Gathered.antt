@@ -1,44 +1,28 @@
 -- From the opening of a run to the history that is gathered when all threads have ended.
-use Rattle.std.proofs.Common.{◌≡◌, ℕ, zero, suc, ◌+◌, ◌-◌, ◌<◌, ◌≤◌, Bool, List, [], map, length, get_or, All, refl, ap, sym, ◌∙◌, subst, arith, Option, Some, Result, Ok, Err, OnOk, OnErr, false}
-use Rattle.std.proofs.lemmas.List.{get_or-map, length-map}
-use mathlib.Core.List.{IsPrefix}
+use Rattle.std.proofs.Common.{◌≡◌, ℕ, zero, suc, ◌+◌, ◌-◌, ◌<◌, ◌≤◌, Bool, List, [], map, length, get_or, All, refl, ap, sym, ◌∙◌, subst, arith, Some, Result, Ok, Err, OnOk, OnErr, false}
+use Rattle.std.proofs.{lemmas.List.get_or-map, lemmas.List.length-map, lemmas.Bool.Decides.nat_tests, lemmas.Grind.common_steps}
 use Rattle.atomic_table.specs.Seated.{TableId}
 use Rattle.vz_loans.specs.Rule.{places}
 use Rattle.vz_frame.specs.declared.message.ClientFile.{ClientFile}
-use Rattle.vz_outside.specs.Shelved.{Shelved, Appends, AppendsFront, Behaves}
+use Rattle.vz_outside.specs.{Shelved.Shelved, Shelved.Appends, Shelved.Behaves, declared.shelf.ShelfError.TheVariants.Memory}
 use Rattle.vz_outside.specs.declared.shelf.ShelfError.{ShelfError}
-use Rattle.vz_outside.specs.declared.shelf.ShelfError.TheVariants.{Memory}
-use Rattle.vz_outside.proofs.Calls.{call_same, kept_same, append_nothing}
-use Rattle.vz_outside.proofs.Rises.{ok_not_failed}
-use Rattle.vz_rules.specs.Plan.{Plan, message_counts}
-use Rattle.vz_rules.specs.declared.entry.Entry.{Entry}
-use Rattle.vz_rules.specs.Step.{Legal, LegalFrom}
-use Rattle.vz_rules.specs.Course.{displayed, IsPaced}
+use Rattle.vz_outside.proofs.{Calls.call_same, Calls.kept_same, Calls.append_nothing, Rises.ok_not_failed}
+use Rattle.vz_rules.specs.{Plan.Plan, Plan.message_counts, declared.entry.Entry.Entry, Step.Legal, Step.LegalFrom, Course.displayed, Course.IsPaced}
 use Rattle.vz_rules.specs.Frames.{written, written_of, painted, painted_of, drawn_frames, drawn_frames_from, frames_bytes}
 use Rattle.vz_desk.specs.Books.{numbered}
-use Rattle.vz_desk.specs.declared.totals.Totals.{Totals}
-use Rattle.vz_desk.specs.Totals.{DisplayTotals, no_totals, no_display_totals, AreTotals}
-use Rattle.vz_desk.specs.Owners.{Owner, fresh, fresh_from, IsSameOwner}
-use Rattle.vz_desk.specs.Gathering.{IsGatheredClient, IsGatheredDisplay}
-use Rattle.vz_threads.specs.Courses.{frames_of}
+use Rattle.vz_desk.specs.{declared.totals.Totals.Totals, Totals.DisplayTotals, Totals.no_totals, Totals.no_display_totals, Totals.AreTotals}
+use Rattle.vz_desk.specs.{Owners.Owner, Owners.fresh, Owners.fresh_from, Owners.IsSameOwner, Gathering.IsGatheredClient, Gathering.IsGatheredDisplay}
+use Rattle.vz_threads.specs.{Courses.frames_of, Outlets.Outlook, Outlets.file_of, Tails.TookAll}
 use Rattle.vz_threads.specs.Crews.{IsAtWork, IsCrew, CrewWorksOn, messages_of, HasTakenAll}
-use Rattle.vz_threads.specs.Outlets.{Outlook, file_of}
 use Rattle.vz_threads.specs.Rounds.{Setup, IsCut, HasPlayed, HasEnded, PlaysAll, IsCutShort}
 use Rattle.vz_threads.specs.Runs.{IsReady, IsOpened, IsUpToTail, IsCutThere, IsRestOf, HasRun}
-use Rattle.vz_threads.specs.Tails.{TookAll}
-use Rattle.vz_threads.proofs.Ending.{paced_on}
-use Rattle.vz_threads.proofs.Going.{amid}
-use Rattle.vz_threads.proofs.Showing.{shown_amid, frames_amid}
+use Rattle.vz_threads.proofs.{Ending.paced_on, Going.amid, Showing.shown_amid, Showing.frames_amid}
+use Rattle.vz_desk.proofs.Owning.{same_plan}
 
 -- Before the first round
 
 behaves_none : (s : Shelved) → Behaves {T = Unit {0}} s s (Ok tt)
-behaves_none s = record {
-  call = call_same s;
-  cause = record { failed = λ is. ok_not_failed tt is; quiet = λ other. refl };
-  works = λ faultless is. ok_not_failed tt is;
-  stays = λ faultless other. record { faultless = faultless; faults = refl };
-}
+behaves_none s = grind (arith, nat_tests, call_same s, ok_not_failed)
 
 no_frames : (p : Plan) (n : ℕ) → frames_of p [] n ≡ []
 unfolding frames_bytes written drawn_frames drawn_frames_from written_of
@@ -97,13 +81,7 @@ files_are p messages counts = ap length counts ∙ length-map p.files (λ (file 
 
 -- they are at work
 pub fresh_work : (id : TableId) (p : Plan) (messages : List ℕ) (ends : List (Owner Totals)) → messages ≡ message_counts p → ends ≡ fresh_from id p 1 (length messages) → All (IsAtWork id p) ends
-fresh_work id p messages ends counts are = subst (All (IsAtWork id p)) (sym are) work
-  where
-    work : All (IsAtWork id p) (fresh_from id p 1 (length messages))
-    work i d low =
-        let here : i < length messages = omega (arith, low, fresh_length id p 1 (length messages)) in
-        subst (IsAtWork id p) (sym (fresh_at id p 1 (length messages) i d here))
-        (record { desk = refl; plan = refl; client = (omega arith, omega (arith, here, files_are p messages counts)); timely = refl; few = omega arith })
+fresh_work id p messages ends counts are = grind (arith, nat_tests, fresh_length id p 1 (length messages), fresh_at id p 1 (length messages), files_are p messages counts)
 
 pub fresh_crew : (id : TableId) (p : Plan) (messages : List ℕ) (ends : List (Owner Totals)) → messages ≡ message_counts p → ends ≡ fresh_from id p 1 (length messages) → IsCrew id messages ends
 fresh_crew id p messages ends counts are = record { plan = p; work = fresh_work id p messages ends counts are; counts = counts }
@@ -113,8 +91,7 @@ fresh_many id p n ends are = ap length are ∙ fresh_length id p 1 n
 
 -- as many come back
 pub as_many : (a b : List (Owner Totals)) → CrewWorksOn a b → length b ≡ length a
-as_many a b w =
-    sym (length-map b (λ (o : Owner Totals). o.number)) ∙ ap length w.numbers ∙ length-map a (λ (o : Owner Totals). o.number)
+as_many a b w = grind (arith, nat_tests, length-map)
 
 -- all of the desk
 pub all_of_desk : (id : TableId) (messages : List ℕ) (os : List (Owner Totals)) → IsCrew id messages os → All (λ (o : Owner Totals). o.desk ≡ id) os
@@ -154,9 +131,6 @@ each_took id p q messages a b h counts are works took gathered c from upto =
 
 -- The display's end
 
-same_plan : (a b : Plan) → ◌≡◌ {A = Option Plan} (Some a) (Some b) → a ≡ b
-same_plan a b e = cc
-
 -- the plan is the one that was opened
 pub plan_is : (p q : Plan) (h : List Entry) (d : Owner DisplayTotals) → d.plan ≡ Some p → IsGatheredDisplay q h d → q ≡ p
 plan_is p q h d planned g = same_plan q p (sym g.gathered.planned ∙ planned)
@@ -184,23 +158,13 @@ ended_cut k rounds paced start now d e = Rattle.vz_threads.proofs.Following.cut_
 
 -- or the run was cut short
 pub cut_there : (k : Setup) (start now : Outlook) (q : Plan) (d : Owner DisplayTotals) (g h : List Entry) (r : Result (Unit {0}) ShelfError) → IsCut k start now d g r → Legal k.plan h → IsGatheredDisplay q h d → IsCutThere k start now h r
-cut_there k start now q d g h r cut legal all =
-    let stay : places 0 (numbered h) ≡ places 0 (numbered g) = ap (λ (n : ℕ). places n (numbered h)) (sym cut.display) ∙ all.gathered.mine ∙ cut.mine in
-    let later : IsPrefix (numbered g) (numbered h) = Rattle.vz_threads.proofs.Following.prefix_then (numbered g) d.seen (numbered h) cut.later all.gathered.begun in
-    let between = amid (numbered g) g h refl later stay in
-    record {
-      fixed = cut.fixed;
-      begun = subst (λ (l : List ℕ). AppendsFront l (file_of start) start.shelf now.shelf) (sym (frames_amid k start g h legal between)) cut.begun;
-      others = cut.others;
-      behaves = cut.behaves;
-    }
+cut_there k start now q d g h r cut legal all = grind (arith, nat_tests, common_steps, amid (numbered g) g h refl, frames_amid k start g h legal)
 
 -- What comes of a run once all threads have ended
 
 -- no frame is in flight
 pub either_way : {E : Type 0} (r : Result (Unit {0}) E) (A B P : Type 0) → OnOk r A → OnErr r B → (A → P) → (B → P) → P
-either_way (Ok x) A B P a b f g = f a
-either_way (Err e) A B P a b f g = g b
+either_way r _ _ _ a b f g = grind (arith, nat_tests)
 
 pub fresh_planned : (p : Plan) (id : TableId) (d0 d : Owner DisplayTotals) → d0 ≡ fresh id p no_display_totals 0 → IsSameOwner d0 d → d.plan ≡ Some p
 fresh_planned p id d0 d is same = same.plan ∙ ap (λ (o : Owner DisplayTotals). o.plan) is

@@ -1,43 +1,27 @@
 -- What the display has seen, while clients make their entries between its own.
-use Rattle.std.proofs.Common.{◌≡◌, ℕ, ◌+◌, Bool, true, false, ◌&&◌, cond, not, List, [], ◌∷◌, ◌++◌, filter, length, reverse, refl, ap, sym, ◌∙◌, subst, Option, Some}
-use Rattle.std.proofs.lemmas.List.{reverse-append, reverse-reverse}
-use Rattle.std.proofs.lemmas.List.Elements.{filter-append}
+use Rattle.std.proofs.Common.{◌≡◌, ℕ, ◌+◌, false, List, [], ◌∷◌, ◌++◌, length, reverse, refl, ap, sym, ◌∙◌, subst, arith}
+use Rattle.std.proofs.{lemmas.List.reverse-append, lemmas.List.reverse-reverse, lemmas.List.Elements.filter-append, lemmas.Bool.and_from as all_true}
 use mathlib.Core.List.{IsPrefix, map-append}
 use Rattle.vz_loans.specs.Rule.{places}
 use Rattle.vz_loans.proofs.Logs.{places_own}
-use Rattle.vz_rules.specs.Plan.{Plan}
-use Rattle.vz_rules.specs.World.{World}
-use Rattle.vz_rules.specs.declared.entry.Event.{Event}
-use Rattle.vz_rules.specs.declared.entry.Event.TheVariants as event
-use Rattle.vz_rules.specs.declared.entry.Entry.{Entry}
-use Rattle.vz_rules.specs.Step.{Legal, world, entry_in, NamesClient}
-use Rattle.vz_rules.specs.Course.{is_of_client, displayed}
-use Rattle.vz_rules.proofs.Runs.{legal-more}
-use Rattle.vz_desk.specs.Books.{caller_in, numbered}
+use Rattle.vz_rules.specs.{Plan.Plan, World.World, declared.entry.Event.Event}
+use Rattle.vz_rules.specs.{declared.entry.Entry.Entry, Step.Legal, Step.world, Step.entry_in, Step.NamesClient, Course.is_of_client, Course.displayed}
+use Rattle.vz_rules.proofs.{Runs.legal-more, Numbered.rest_same}
+use Rattle.vz_desk.specs.{Books.caller_in, Books.numbered, Totals.DisplayTotals}
 use Rattle.vz_desk.specs.Owners.{Owner, HasSeen, IsSameOwner, Makes, MakesNone}
-use Rattle.vz_desk.specs.Totals.{DisplayTotals}
-use Rattle.vz_desk.proofs.Owning.{longer_history}
-use Rattle.vz_desk.proofs.Displaying.{shown_same}
+use Rattle.vz_desk.proofs.{Owning.longer_history, Owning.same_plan, Displaying.shown_same}
 use Rattle.vz_threads.proofs.Quiet.{AreClients}
+use Rattle.std.proofs.lemmas.Bool.Decides.{nat_tests}
 
 -- an event of the display
 abbrev pub IsOwn : Event → Type 0
 IsOwn e = is_of_client e ≡ false
 
-client_first : (t : Bool) (e : Entry) (rest : List Entry) → cond (not t) (e ∷ rest) rest ≡ [] → (t ≡ true) × (rest ≡ [])
-client_first true e rest is = (refl, is)
-client_first false e rest is = absurd (cc)
-
-all_true : (t u : Bool) → t ≡ true → u ≡ true → (t && u) ≡ true
-all_true t u a b = ap (λ x. x && u) a ∙ b
-
 -- entries among which the display has none are clients'
 pub are_clients : (more : List Entry) → displayed more ≡ [] → AreClients more
 unfolding displayed
 are_clients [] is = refl
-are_clients (e ∷ more) is =
-    let both = client_first (is_of_client e.event) e (filter (λ x. not (is_of_client x.event)) more) is in
-    all_true (is_of_client e.event) _ both.0 (are_clients more both.1)
+are_clients (e ∷ more) is = grind (arith, nat_tests, all_true (is_of_client e.event), are_clients more)
 
 -- what came between what the display had seen and an entry of its own: clients' entries
 pub record Amid (h before : List Entry) : Type 0 where
@@ -46,47 +30,23 @@ pub record Amid (h before : List Entry) : Type 0 where
   pub clients : AreClients more
   pub same : displayed before ≡ displayed h
 
-rest_same : {A : Type 0} (x y : A) (xs ys : List A) → x ∷ xs ≡ y ∷ ys → xs ≡ ys
-rest_same x y xs ys is = cc
-
 append_none : {A : Type 0} (xs ys : List A) → xs ++ ys ≡ xs → ys ≡ []
 append_none [] ys is = is
 append_none (x ∷ xs) ys is = append_none xs ys (rest_same x x (xs ++ ys) xs is)
 
-none_shown : (h more : List Entry) → displayed (h ++ more) ≡ displayed h → displayed more ≡ []
-unfolding displayed
-none_shown h more same = append_none (displayed h) (displayed more) (sym (filter-append (λ e. not (is_of_client e.event)) h more) ∙ same)
-
 -- where the display has no place more, only clients' entries came between
 pub amid : (s : List (ℕ × Entry)) (h before : List Entry) → s ≡ numbered h → IsPrefix s (numbered before) → places 0 (numbered before) ≡ places 0 s → Amid h before
-amid s h before seen later stay =
-    let longer = longer_history h before (subst (λ (x : List (ℕ × Entry)). IsPrefix x (numbered before)) seen later) in
-    let same = shown_same h before s seen later stay in
-    record {
-      more = longer.0;
-      all = longer.1;
-      clients = are_clients longer.0 (none_shown h longer.0 (sym (ap displayed longer.1) ∙ sym same));
-      same = sym same;
-    }
+unfolding displayed
+amid s h before seen later stay = grind (arith, nat_tests, longer_history h before, shown_same h before s seen later stay, are_clients, append_none, filter-append)
 
 init_same : {A : Type 0} (xs ys : List A) (x y : A) → xs ++ x ∷ [] ≡ ys ++ y ∷ [] → xs ≡ ys
-init_same xs ys x y is =
-    let turned : x ∷ reverse xs ≡ y ∷ reverse ys = sym (reverse-append xs (x ∷ [])) ∙ ap reverse is ∙ reverse-append ys (y ∷ []) in
-    sym (reverse-reverse xs) ∙ ap reverse (rest_same x y (reverse xs) (reverse ys) turned) ∙ reverse-reverse ys
+init_same xs ys x y is = grind (arith, nat_tests, reverse-append xs (x ∷ []), reverse-append ys (y ∷ []), reverse-reverse xs, rest_same x y (reverse xs) (reverse ys), reverse-reverse ys)
 
 caller_is : (e : Event) → IsOwn e → caller_in e ≡ 0
-caller_is (event.Client c) own = absurd (cc)
-caller_is event.Begin own = refl
-caller_is event.Draw own = refl
-caller_is event.Done own = refl
-caller_is event.Over own = refl
+caller_is e own = grind (arith, nat_tests)
 
 own_named : (p : Plan) (e : Event) → IsOwn e → NamesClient p e
-own_named p (event.Client c) own = absurd (cc)
-own_named p event.Begin own = tt
-own_named p event.Draw own = tt
-own_named p event.Done own = tt
-own_named p event.Over own = tt
+own_named p e own = grind (arith, nat_tests)
 
 event_of : (p : Plan) (w : World) (e : Event) (made : Entry) → made ≡ entry_in p w e → made.event ≡ e
 unfolding entry_in
@@ -94,12 +54,7 @@ event_of p w e made is = ap (λ (x : Entry). x.event) is
 
 displayed_one : (h : List Entry) (e : Entry) → is_of_client e.event ≡ false → displayed (h ++ e ∷ []) ≡ displayed h ++ e ∷ []
 unfolding displayed
-displayed_one h e own =
-    filter-append (λ x. not (is_of_client x.event)) h (e ∷ [])
-    ∙ ap (λ (t : Bool). displayed h ++ cond (not t) (e ∷ []) []) own
-
-same_plan : (a b : Plan) → ◌≡◌ {A = Option Plan} (Some a) (Some b) → a ≡ b
-same_plan a b e = cc
+displayed_one h e own = grind (arith, nat_tests, filter-append)
 
 -- the display made an entry behind clients' ones
 pub record Made (p : Plan) (d : Owner DisplayTotals) (h : List Entry) (v : Event) (before : List Entry) (made : Entry) : Type 0 where
@@ -157,16 +112,4 @@ made_is p q d d' h before v made sees display own same makes = (
 
 -- the display made none, and sees a longer history
 pub waited_is : (p q : Plan) (d d' : Owner DisplayTotals) (h g : List Entry) → HasSeen d p h → d.number ≡ 0 → IsSameOwner d d' → MakesNone d d' → HasSeen d' q g → (q ≡ p) × Amid h g × HasSeen d' p g
-waited_is p q d d' h g sees display same none then = (
-  is,
-  amid d.seen h g sees.seen (subst (IsPrefix d.seen) then.seen same.later) stay,
-  subst (λ (x : Plan). HasSeen d' x g) is then,
-)
-  where
-    is : q ≡ p
-    is = same_plan q p (sym then.planned ∙ same.plan ∙ sees.planned)
-
-    stay : places 0 (numbered g) ≡ places 0 d.seen
-    stay =
-        ap (places 0) (sym then.seen) ∙ ap (λ (n : ℕ). places n d'.seen) (sym (same.number ∙ display)) ∙ none.mine
-        ∙ ap (λ (n : ℕ). places n d.seen) display
+waited_is p q d d' h g sees display same none then = grind (arith, nat_tests, amid d.seen h g sees.seen (subst (IsPrefix d.seen) then.seen same.later), same_plan q p)

@@ -1,7 +1,8 @@
 -- Where things stand in lists that are put behind one another, and in what a filter keeps.
-use Rattle.std.proofs.Common.{◌≡◌, ℕ, zero, suc, ◌+◌, ◌≤◌, ◌&&◌, ◌⊎◌, Bool, true, false, inl, inr, Option, Some, List, [], ◌∷◌, ◌++◌, length, filter, refl, ap, ◌∙◌, arith, cond, slice_get}
+use Rattle.std.proofs.Common.{◌≡◌, ℕ, zero, suc, ◌+◌, ◌⊎◌, Bool, true, false, inl, inr, Option, Some, List, [], ◌∷◌, ◌++◌, length, filter, refl, ap, ◌∙◌, arith, cond, slice_get}
 use Rattle.std.specs.List.{list_all}
-use Rattle.std.proofs.lemmas.List.Sums.{length-filter, count_by-le-length}
+use Rattle.std.proofs.{lemmas.List.Sums.length-filter, lemmas.List.Sums.count_by-le-length, lemmas.Bool.Decides.nat_tests}
+use Rattle.vz_rules.proofs.Numbered.{rest_same}
 
 -- a thing of two lists stands in the first, or so far into the second
 pub at_append : {A : Type 0} (xs ys : List A) (n : ℕ) (x : A) → slice_get (xs ++ ys) n ≡ Some x
@@ -20,26 +21,15 @@ at_split [] n x at = absurd (cc)
 at_split (y ∷ xs) zero x at = ([], xs, ap (λ z. z ∷ xs) (some_same y x at))
 at_split (y ∷ xs) (suc n) x at = let r = at_split xs n x at in (y ∷ r.0, r.1, ap (λ l. y ∷ l) r.2)
 
-filtered_less : {A : Type 0} (t : A → Bool) (xs : List A) → length (filter t xs) ≤ length xs
-filtered_less t xs = omega (arith, length-filter t xs, count_by-le-length t xs)
-
 -- where a filter keeps as many as there are, all pass
 pub all_pass : {A : Type 0} (t : A → Bool) (xs : List A) → length xs ≡ length (filter t xs) → list_all t xs ≡ true
 all_pass t [] same = refl
-all_pass t (x ∷ xs) same =
-    elim (t x) as (λ (b : Bool). length (x ∷ xs) ≡ length (cond b (x ∷ filter t xs) (filter t xs)) → (b && list_all t xs) ≡ true) [
-      | true ↦ λ s. all_pass t xs (omega (arith, s))
-      | false ↦ λ s. absurd (omega (arith, s, filtered_less t xs))
-    ] same
+all_pass t (x ∷ xs) same = grind (arith, nat_tests, all_pass t xs, length-filter, count_by-le-length)
 
 -- what a filter keeps where all pass
 pub filter_all : {A : Type 0} (t : A → Bool) (xs : List A) → list_all t xs ≡ true → filter t xs ≡ xs
 filter_all t [] all = refl
-filter_all t (x ∷ xs) all =
-    elim (t x) as (λ (b : Bool). (b && list_all t xs) ≡ true → cond b (x ∷ filter t xs) (filter t xs) ≡ x ∷ xs) [
-      | true ↦ λ a. ap (λ l. x ∷ l) (filter_all t xs a)
-      | false ↦ λ a. absurd (cc)
-    ] all
+filter_all t (x ∷ xs) all = grind (arith, nat_tests, filter_all t xs)
 
 -- the one that a filter keeps last: behind it none passes
 pub record EndsFiltered {A : Type 0} (t : A → Bool) (xs first : List A) (last : A) : Type 0 where
@@ -74,19 +64,8 @@ module _ {A : Type 0} (t : A → Bool) (xs : List A) (x last : A) where
 head_same : {A : Type 0} (a b : A) (as' bs : List A) → a ∷ as' ≡ b ∷ bs → a ≡ b
 head_same a b as' bs e = cc
 
-rest_same : {A : Type 0} (a b : A) (as' bs : List A) → a ∷ as' ≡ b ∷ bs → as' ≡ bs
-rest_same a b as' bs e = cc
-
 pub ends_filtered : {A : Type 0} (t : A → Bool) (xs first : List A) (last : A) → filter t xs ≡ first ++ last ∷ [] → EndsFiltered t xs first last
 ends_filtered t [] [] last e = absurd (cc)
 ends_filtered t [] (f ∷ first) last e = absurd (cc)
-ends_filtered t (x ∷ xs) [] last e =
-    elim (t x) as (λ (b : Bool). t x ≡ b → cond b (x ∷ filter t xs) (filter t xs) ≡ last ∷ [] → EndsFiltered t (x ∷ xs) [] last) [
-      | true ↦ λ is same. keep_last t xs x last (head_same x last (filter t xs) [] same) (rest_same x last (filter t xs) [] same)
-      | false ↦ λ is same. skip_one t xs x last [] is (ends_filtered t xs [] last same)
-    ] refl e
-ends_filtered t (x ∷ xs) (f ∷ first) last e =
-    elim (t x) as (λ (b : Bool). t x ≡ b → cond b (x ∷ filter t xs) (filter t xs) ≡ f ∷ (first ++ last ∷ []) → EndsFiltered t (x ∷ xs) (f ∷ first) last) [
-      | true ↦ λ is same. keep_one t xs x last f first is (head_same x f (filter t xs) (first ++ last ∷ []) same) (ends_filtered t xs first last (rest_same x f (filter t xs) (first ++ last ∷ []) same))
-      | false ↦ λ is same. skip_one t xs x last (f ∷ first) is (ends_filtered t xs (f ∷ first) last same)
-    ] refl e
+ends_filtered t (x ∷ xs) [] last e = grind (arith, nat_tests, keep_last, head_same, rest_same, skip_one, ends_filtered t xs [] last)
+ends_filtered t (x ∷ xs) (f ∷ first) last e = grind (arith, nat_tests, keep_one, head_same, ends_filtered t xs first last, rest_same, skip_one, ends_filtered t xs (f ∷ first) last)

@@ -1,22 +1,13 @@
 -- What clients' entries leave as it is: the frames that are drawn, painted and written, and the display.
-use Rattle.std.proofs.Common.{◌≡◌, ℕ, true, false, Option, List, [], ◌∷◌, ◌++◌, reverse, append-nil, refl, ap, ◌∙◌}
-use Rattle.std.specs.Prelude.{IsTrue}
-use Rattle.std.specs.List.{list_all}
-use Rattle.std.proofs.lemmas.Bool.{and_parts}
+use Rattle.std.proofs.Common.{◌≡◌, ℕ, true, false, Option, List, [], ◌∷◌, ◌++◌, reverse, append-nil, refl, ap, ◌∙◌, arith}
+use Rattle.std.specs.{Prelude.IsTrue, List.list_all}
+use Rattle.std.proofs.{lemmas.Bool.and_parts, lemmas.Bool.Decides.nat_tests}
 use Rattle.vz_rules.specs.Plan.{Plan}
-use Rattle.vz_rules.specs.World.{World, Client, Scene, opening}
-use Rattle.vz_rules.specs.Scene.{scene_of}
-use Rattle.vz_rules.specs.declared.entry.Event.{Event}
-use Rattle.vz_rules.specs.declared.entry.Event.TheVariants as event
-use Rattle.vz_rules.specs.declared.entry.Reply.{Reply}
-use Rattle.vz_rules.specs.declared.entry.Reply.TheVariants as reply
-use Rattle.vz_rules.specs.declared.entry.Entry.{Entry}
-use Rattle.vz_rules.specs.Messages.{Answer, accepted, client_answer}
+use Rattle.vz_rules.specs.{World.World, World.Client, World.Scene, World.opening, Messages.Answer, Messages.accepted, Messages.client_answer}
+use Rattle.vz_rules.specs.{declared.entry.Event.Event, declared.entry.Reply.Reply, declared.entry.Entry.Entry, Course.is_of_client, Course.is_drawn}
 use Rattle.vz_rules.specs.Step.{answer_to, outcome_of, step_in, entry_in, world, world_from, LegalFrom, Legal}
-use Rattle.vz_rules.specs.Course.{is_of_client, is_drawn}
 use Rattle.vz_rules.specs.Frames.{DrawnFrame, painted_of, written_of, drawn_frame_of, drawn_frames, drawn_frames_from, painted, written}
-use Rattle.vz_rules.proofs.Cases.{client_cases}
-use Rattle.vz_rules.proofs.Runs.{drawn_frames_from-append}
+use Rattle.vz_rules.proofs.{Cases.client_cases, Runs.drawn_frames_from-append}
 use Rattle.vz_display.specs.Displayed.{display_after, display_at}
 
 -- these entries are all clients'
@@ -45,16 +36,11 @@ client_draws_none p w c =
 -- and so does a client's step
 pub client_step_draws_none : (p : Plan) (w : World) (e : Event) → is_of_client e ≡ true → is_drawn (step_in p w e).reply ≡ false
 unfolding step_in outcome_of answer_to
-client_step_draws_none p w (event.Client c) is = client_draws_none p w c
-client_step_draws_none p w event.Begin is = absurd (cc)
-client_step_draws_none p w event.Draw is = absurd (cc)
-client_step_draws_none p w event.Done is = absurd (cc)
-client_step_draws_none p w event.Over is = absurd (cc)
+client_step_draws_none p w e is = grind (arith, nat_tests, client_draws_none)
 
 -- an entry that draws nothing adds no frame
 no_frame_of : (s : Option Scene) (r : Reply) → is_drawn r ≡ false → drawn_frame_of s r ≡ []
-no_frame_of s (reply.Drawn damage) none = absurd (cc)
-no_frame_of s r none = refl
+no_frame_of s r none = grind (arith, nat_tests)
 
 -- the reply of an entry that the machine makes
 pub reply_of : (p : Plan) (w : World) (e : Entry) → e ≡ entry_in p w e.event → e.reply ≡ (step_in p w e.event).reply
@@ -64,11 +50,7 @@ reply_of p w e is = ap (λ (x : Entry). x.reply) is
 clients_draw_none : (p : Plan) (w : World) (more : List Entry) → LegalFrom p w more → AreClients more → drawn_frames_from p w more ≡ []
 unfolding LegalFrom drawn_frames_from
 clients_draw_none p w [] legal clients = refl
-clients_draw_none p w (e ∷ more) legal clients =
-    let both = and_parts (is_of_client e.event) (list_all (λ (x : Entry). is_of_client x.event) more) clients in
-    ap (λ l. l ++ drawn_frames_from p (step_in p w e.event).world more)
-    (no_frame_of (scene_of w) e.reply (ap is_drawn (reply_of p w e legal.1) ∙ client_step_draws_none p w e.event both.0))
-    ∙ clients_draw_none p (step_in p w e.event).world more legal.2 both.1
+clients_draw_none p w (e ∷ more) legal clients = grind (arith, nat_tests, and_parts, no_frame_of, reply_of, client_step_draws_none, clients_draw_none p (step_in p w e.event).world more legal.2)
 
 legal_rest_from : (p : Plan) (w : World) (h more : List Entry) → LegalFrom p w (h ++ more) → LegalFrom p (world_from p w h) more
 unfolding LegalFrom world_from

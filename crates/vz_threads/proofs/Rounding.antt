@@ -3,35 +3,22 @@ use Rattle.std.proofs.Common.{◌≡◌, ℕ, zero, suc, ◌+◌, ◌≤◌, ◌
 use mathlib.Core.Logic.{dite}
 use native.Mathlib.Decide.{ℕ_discrete}
 use Rattle.std.specs.Prelude.{count_by, IsTrue, IsFalse}
-use Rattle.std.proofs.lemmas.List.Sums.{sum_by-append}
+use Rattle.std.proofs.{lemmas.List.Sums.sum_by-append, lemmas.Bool.Decides.nat_tests, lemmas.Grind.common_steps}
 use Rattle.vz_rules.proofs.Counts.{count_cons}
 use mathlib.Core.List.{IsPrefix}
 use Rattle.vz_loans.specs.Rule.{places}
-use Rattle.vz_outside.specs.Shelved.{KeepsOthers, AppendsFront, Behaves}
+use Rattle.vz_outside.specs.{Shelved.KeepsOthers, Shelved.AppendsFront, Shelved.Behaves, declared.shelf.ShelfError.TheVariants.Memory}
 use Rattle.vz_outside.specs.declared.shelf.ShelfError.{ShelfError}
-use Rattle.vz_outside.specs.declared.shelf.ShelfError.TheVariants.{Memory}
-use Rattle.vz_outside.proofs.Calls.{ran_one}
-use Rattle.vz_rules.specs.Plan.{Plan}
-use Rattle.vz_rules.specs.World.{World, Scene}
-use Rattle.vz_rules.specs.Scene.{scene_of}
-use Rattle.vz_rules.specs.declared.entry.Event.{Event}
+use Rattle.vz_outside.proofs.{Calls.ran_one, Behaving.memory_behaves}
+use Rattle.vz_rules.specs.{Plan.Plan, World.World, World.Scene, declared.entry.Event.Event, declared.entry.Reply.Reply, declared.entry.Entry.Entry}
+use Rattle.vz_rules.specs.{Scene.scene_of, Frames.drawn_frame_of}
 use Rattle.vz_rules.specs.declared.entry.Event.TheVariants as event
-use Rattle.vz_rules.specs.declared.entry.Reply.{Reply}
 use Rattle.vz_rules.specs.declared.entry.Reply.TheVariants as reply
-use Rattle.vz_rules.specs.declared.entry.Entry.{Entry}
 use Rattle.vz_rules.specs.Step.{world, step_in, entry_in, outcome_of, answer_to, begin_answer}
 use Rattle.vz_rules.specs.Course.{is_of_client, is_drawn, displayed, IsShow, AreRounds, is_begin, is_draw, is_calm, IsPaced}
-use Rattle.vz_rules.specs.Frames.{drawn_frame_of}
-use Rattle.vz_machine.specs.Pictured.{Pictured}
-use Rattle.vz_machine.specs.Stepping.{ShowsDrawn}
-use Rattle.vz_outside.proofs.Behaving.{memory_behaves}
-use Rattle.vz_desk.specs.Books.{numbered}
-use Rattle.vz_desk.specs.Flights.{flies_by}
-use Rattle.vz_desk.specs.Owners.{Owner, IsSameOwner, MakesNone}
-use Rattle.vz_desk.specs.Answers.{IsPaused}
-use Rattle.vz_desk.specs.Totals.{DisplayTotals}
-use Rattle.vz_desk.specs.Displays.{Displays, EndsFrame}
-use Rattle.vz_desk.specs.Drawings.{Draws}
+use Rattle.vz_machine.specs.{Pictured.Pictured, Stepping.ShowsDrawn}
+use Rattle.vz_desk.specs.{Books.numbered, Flights.flies_by, Answers.IsPaused, Drawings.Draws}
+use Rattle.vz_desk.specs.{Owners.Owner, Owners.IsSameOwner, Owners.MakesNone, Totals.DisplayTotals, Displays.Displays, Displays.EndsFrame}
 use Rattle.vz_threads.specs.Courses.{frames_of}
 use Rattle.vz_threads.specs.Outlets.{Outlook, MayShow, Shows, BeginsFrame, file_of}
 use Rattle.vz_threads.specs.Rounds.{Setup, AreShown, IsAt, IsCut, Continues, HasPlayed, HasBegun}
@@ -40,8 +27,7 @@ use Rattle.vz_threads.proofs.Going.{Amid, IsOwn, Made, made_is, waited_is}
 use Rattle.vz_threads.proofs.Showing.{shown_amid, shown_other, Pictures, pictures, may_show, shown_next, front_next, front_whole, frames_amid, frames_other, others_next, behaves_next}
 
 plain_frame : (s : Option Scene) (r : Reply) → is_drawn r ≡ false → drawn_frame_of s r ≡ []
-plain_frame s (reply.Drawn damage) none = absurd (cc)
-plain_frame s r none = refl
+plain_frame s r none = grind (arith, nat_tests)
 
 begin_plain : (p : Plan) (w : World) (v : Event) (e : Entry) → (v ≡ event.Begin) → e ≡ entry_in p w v → is_drawn e.reply ≡ false
 unfolding entry_in step_in outcome_of answer_to begin_answer
@@ -52,11 +38,7 @@ unfolding entry_in step_in outcome_of answer_to
 over_plain p w v e over is = ap (λ (x : Entry). is_drawn x.reply) (is ∙ ap (entry_in p w) over)
 
 plain_flies : (v : Event) (r : Reply) (flies : Bool) → IsOwn v → is_drawn r ≡ false → flies ≡ false → flies_by flies v r ≡ false
-plain_flies (event.Client c) r flies own plain none = absurd (cc)
-plain_flies event.Begin r flies own plain none = none
-plain_flies event.Draw r flies own plain none = ap (λ (t : Bool). t || flies) plain ∙ none
-plain_flies event.Done r flies own plain none = refl
-plain_flies event.Over r flies own plain none = none
+plain_flies v r flies own plain none = grind (arith, nat_tests)
 
 later_by : (h before : List Entry) (e : Entry) → Amid h before → IsPrefix h (before ++ e ∷ [])
 later_by h before e between = (between.more ++ e ∷ [], sym (append_assoc h between.more (e ∷ [])) ∙ ap (λ (l : List Entry). l ++ e ∷ []) (sym between.all))
@@ -94,8 +76,7 @@ module _ (k : Setup) (start now : Outlook) (d d' : Owner DisplayTotals) (h : Lis
 
   -- by a drawing that draws nothing
   none_drawn : (m : Rattle.vz_rules.specs.World.Machine) (r : Reply) → ShowsDrawn m r None → is_drawn r ≡ false
-  none_drawn m (reply.Drawn damage) shows = absurd shows
-  none_drawn m r shows = refl
+  none_drawn m r shows = grind (arith, nat_tests)
 
   pub drawn_none : (x : Draws d d' None) → (show : List Entry) × (history : List Entry) × IsShow show × Continues k start now d' h show history
   drawn_none x =
@@ -104,32 +85,11 @@ module _ (k : Setup) (start now : Outlook) (d d' : Owner DisplayTotals) (h : Lis
 
   -- by none, while others made entries
   pub waited_goes : MakesNone d d' → (q : IsPaused d') → Amid h q.history × IsAt k start now d' q.history × IsTrue (is_calm k.plan (world k.plan q.history))
-  waited_goes none q =
-      let w = waited_is k.plan q.plan d d' h q.history at.sees at.display same none q.sees in (
-        w.1,
-        record {
-          begins = at.begins;
-          display = same.number ∙ at.display;
-          sees = w.2;
-          rests = ap (λ (t : DisplayTotals). t.in_flight) none.totals ∙ at.rests;
-          shown = shown_amid k start now h q.history w.2.legal w.1 at.shown;
-        },
-        subst (λ (p : Plan). IsTrue (is_calm p (world p q.history))) w.0 q.calm,
-      )
+  waited_goes none q = grind (arith, nat_tests, waited_is k.plan q.plan d d' h q.history at.sees at.display same none q.sees, shown_amid k start now h q.history)
 
   -- cut short where it made none, for want of memory
   pub cut_here : MakesNone d d' → IsCut k start now d' h (Err Memory)
-  cut_here none = record {
-    display = same.number ∙ at.display;
-    planned = same.plan ∙ at.sees.planned;
-    later = subst (λ (s : List (ℕ × Entry)). IsPrefix s d'.seen) at.sees.seen same.later;
-    mine = none.mine ∙ ap (λ (n : ℕ). places n d.seen) at.display ∙ ap (places 0) at.sees.seen;
-    rests = ap (λ (t : DisplayTotals). t.in_flight) none.totals ∙ at.rests;
-    fixed = at.shown.fixed;
-    begun = front_whole k start now h at.shown;
-    others = at.shown.others;
-    behaves = memory_behaves start.shelf now.shelf (ran_one tt start.shelf now.shelf at.shown.behaves);
-  }
+  cut_here none = grind (arith, nat_tests, front_whole, memory_behaves, ran_one)
 
 -- A drawing, shown, and its Done
 
@@ -149,16 +109,11 @@ module _ (k : Setup) (start was now : Outlook) (d d' d'' : Owner DisplayTotals) 
   drawing : Made k.plan d' h event.Draw draws.displays.before draws.displays.made
   drawing = (made_is k.plan draws.displays.plan d d' h draws.displays.before event.Draw draws.displays.made at.sees at.display refl same draws.displays.makes).1
 
-  plan_is : draws.displays.plan ≡ k.plan
-  plan_is = (made_is k.plan draws.displays.plan d d' h draws.displays.before event.Draw draws.displays.made at.sees at.display refl same draws.displays.makes).0
-
   before_shown : AreShown k start was draws.displays.before
   before_shown = shown_amid k start was h draws.displays.before drawing.legal drawing.amid at.shown
 
   pictured : Pictures k start was draws.displays.before draws.displays.made x
-  pictured =
-      pictures k start was draws.displays.before draws.displays.made x at.begins before_shown
-      (subst (λ (p : Plan). ShowsDrawn (record { plan = p; world = world p draws.displays.before }) draws.displays.made.reply (Some x)) plan_is draws.shows)
+  pictured = grind (arith, nat_tests, pictures, before_shown, made_is)
 
   -- the outlet may show it
   pub may : MayShow was x
@@ -250,70 +205,31 @@ rounds_more (suc n) es show b are begin is = (
   rounds_more n are.2 show b are.6 begin is,
 )
 
-count_append : (t : Entry → Bool) (xs ys : List Entry) → count_by t (xs ++ ys) ≡ count_by t xs + count_by t ys
-count_append t xs ys = sum_by-append (λ x. cond (t x) 1 0) xs ys
-
 -- what is no client's is counted among the display's entries
 counts_shown : (t : Entry → Bool) → ((e : Entry) → is_of_client e.event ≡ true → t e ≡ false) → (h : List Entry) → count_by t h ≡ count_by t (displayed h)
 unfolding displayed
 counts_shown t own [] = refl
-counts_shown t own (e ∷ h) =
-    elim (is_of_client e.event) as (λ (b : Bool). is_of_client e.event ≡ b → count_by t (e ∷ h) ≡ count_by t (cond (not b) (e ∷ filter (λ x. not (is_of_client x.event)) h) (filter (λ x. not (is_of_client x.event)) h))) [
-      | true ↦ λ is. count_cons t e h ∙ (ap (λ (b : Bool). cond b 1 0 + count_by t h) (own e is) ∙ (omega arith ∙ counts_shown t own h))
-      | false ↦ λ is. count_cons t e h ∙ (ap (λ n. cond (t e) 1 0 + n) (counts_shown t own h) ∙ sym (count_cons t e (filter (λ x. not (is_of_client x.event)) h)))
-    ] refl
+counts_shown t own (e ∷ h) = grind (arith, nat_tests, count_cons t e h, counts_shown t own h, count_cons t e (filter (λ x. not (is_of_client x.event)) h))
 
 client_begins : (v : Event) → is_of_client v ≡ true → (elim v [ event.Begin ↦ true | _ ↦ false ]) ≡ false
-client_begins (event.Client c) is = refl
-client_begins event.Begin is = absurd (cc)
-client_begins event.Draw is = refl
-client_begins event.Done is = refl
-client_begins event.Over is = refl
+client_begins v is = grind (arith, nat_tests)
 
 client_draws : (v : Event) → is_of_client v ≡ true → (elim v [ event.Draw ↦ true | _ ↦ false ]) ≡ false
-client_draws (event.Client c) is = refl
-client_draws event.Begin is = refl
-client_draws event.Draw is = absurd (cc)
-client_draws event.Done is = refl
-client_draws event.Over is = refl
+client_draws v is = grind (arith, nat_tests)
 
 -- how many begin-frames and drawings these are
 abbrev Count : ℕ → ℕ → List Entry → Type 0
 Count begins draws es = (count_by is_begin es ≡ begins) × (count_by is_draw es ≡ draws)
 
-one_count : (e : Entry) (b d : Bool) → is_begin e ≡ b → is_draw e ≡ d → Count (cond b 1 0) (cond d 1 0) (e ∷ [])
-one_count e b d begin draw = (
-  count_cons is_begin e [] ∙ (ap (λ (t : Bool). cond {A = ℕ} t 1 0 + 0) begin ∙ omega arith),
-  count_cons is_draw e [] ∙ (ap (λ (t : Bool). cond {A = ℕ} t 1 0 + 0) draw ∙ omega arith),
-)
-
 both_count : (a b c d : ℕ) (xs ys : List Entry) → Count a b xs → Count c d ys → Count (a + c) (b + d) (xs ++ ys)
-both_count a b c d xs ys x y = (
-  count_append is_begin xs ys ∙ (λ i. x.0 i + y.0 i),
-  count_append is_draw xs ys ∙ (λ i. x.1 i + y.1 i),
-)
+both_count a b c d xs ys x y = grind (arith, nat_tests, sum_by-append)
 
 event_count : (e : Entry) (v : Event) → e.event ≡ v → Count (cond (elim v [ event.Begin ↦ true | _ ↦ false ]) 1 0) (cond (elim v [ event.Draw ↦ true | _ ↦ false ]) 1 0) (e ∷ [])
-event_count e v is =
-    one_count e (elim v [ event.Begin ↦ true | _ ↦ false ]) (elim v [ event.Draw ↦ true | _ ↦ false ])
-    (ap (λ (x : Event). elim x [ event.Begin ↦ true | _ ↦ false ]) is) (ap (λ (x : Event). elim x [ event.Draw ↦ true | _ ↦ false ]) is)
-
-show_count : (es : List Entry) → IsShow es → Count 0 1 es
-show_count [] is = absurd is
-show_count (d ∷ []) is = event_count d event.Draw is.0
-show_count (d ∷ e ∷ []) is = both_count 0 1 0 0 (d ∷ []) (e ∷ []) (event_count d event.Draw is.0) (event_count e event.Done is.2)
-show_count (d ∷ e ∷ f ∷ es) is = absurd is
+event_count e v is = grind (arith, nat_tests, count_cons)
 
 rounds_count : (n : ℕ) (es : List Entry) → AreRounds n es → Count n n es
 rounds_count zero es are = (ap (count_by is_begin) are, ap (count_by is_draw) are)
-rounds_count (suc n) es are =
-    let rest = rounds_count n are.2 are.6 in
-    let both = both_count 0 1 n n are.1 are.2 (show_count are.1 are.5) rest in
-    let shown : Count n (1 + n) (are.1 ++ are.2) = (both.0 ∙ omega arith, both.1) in
-    let all = both_count 1 0 n (1 + n) (are.0 ∷ []) (are.1 ++ are.2) (event_count are.0 event.Begin are.4) shown in (
-      ap (count_by is_begin) are.3 ∙ (all.0 ∙ omega arith),
-      ap (count_by is_draw) are.3 ∙ (all.1 ∙ omega arith),
-    )
+rounds_count (suc n) es are = grind (arith, nat_tests, common_steps, rounds_count n are.2 are.6, event_count, event_count are.0)
 
 -- a pause of the round that is begun makes it paced
 pub paced_more : (p : Plan) (n : ℕ) (h first : List Entry) (b : Entry) → displayed h ≡ first ++ b ∷ [] → AreRounds n first → b.event ≡ event.Begin → IsPaced p h n → IsTrue (is_calm p (world p h)) → IsPaced p h (n + 1)
@@ -358,20 +274,8 @@ pub record Paused (k : Setup) (start now : Outlook) (d : Owner DisplayTotals) (h
 
 pub paused_by : (k : Setup) (start now : Outlook) (d d' : Owner DisplayTotals) (h : List Entry) → IsAt k start now d h → IsSameOwner d d' → MakesNone d d' → (paced : Bool) → (IsTrue paced → IsPaused d') → (IsFalse paced → d' ≡ d)
     → Paused k start now d' h paced
-paused_by k start now d d' h at same none true calm stays =
-    let q = calm refl in
-    let w = waited_goes k start now d d' h at same none q in
-    record { history = q.history; later = (w.0.more, sym w.0.all); same = w.0.same; at = w.1; calm = λ t. w.2 }
-paused_by k start now d d' h at same none false calm stays = record {
-  history = h;
-  later = ([], append-nil h);
-  same = refl;
-  at = subst (λ (x : Owner DisplayTotals). IsAt k start now x h) (sym (stays refl)) at;
-  calm = λ t. absurd (no t);
-}
-  where
-    no : false ≡ true → ⊥
-    no e = cc
+paused_by k start now d d' h at same none true calm stays = grind (arith, nat_tests, common_steps, waited_goes k start now d d' h at same none)
+paused_by k start now d d' h at same none false calm stays = grind (arith, nat_tests, common_steps)
 
 -- a round ends by a show behind the pause
 pub round_ends : (k : Setup) (paced : Bool) (start was now : Outlook) (d d' d'' : Owner DisplayTotals) (n : ℕ) (b : HasBegun k paced start was d n) → Paused k start was d' b.history paced

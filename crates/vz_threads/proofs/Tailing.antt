@@ -1,27 +1,20 @@
 -- What stands as a player takes events by several calls, and its frames are written.
-use Rattle.std.proofs.Common.{◌≡◌, ℕ, zero, suc, ◌+◌, ◌<◌, Bool, true, false, Some, List, [], ◌∷◌, ◌++◌, length, take, get_or, inl, inr, refl, sym, ap, subst, ◌∙◌, append_assoc, append-nil, arith}
-use Rattle.std.specs.List.{All, list_all}
-use Rattle.std.proofs.lemmas.Bool.{and_from, cases_order}
-use Rattle.std.proofs.lemmas.List.{length-append, take_all, take-append-le}
-use Rattle.std.proofs.lemmas.List.Folds.{list_all-append}
+use Rattle.std.proofs.Common.{◌≡◌, ℕ, ◌+◌, ◌<◌, Bool, true, false, Some, List, [], ◌∷◌, ◌++◌, take, inl, inr, refl, sym, ap, subst, ◌∙◌, append_assoc, append-nil, arith}
+use Rattle.std.proofs.{lemmas.Bool.and_from, lemmas.Bool.cases_order, lemmas.List.length-append, lemmas.List.take_all, lemmas.List.take-append-le}
+use Rattle.std.proofs.{lemmas.List.Folds.list_all-append, lemmas.Bool.Decides.nat_tests, lemmas.Grind.common_steps}
 use Rattle.vz_pixels.specs.Colour.{Colour}
 use Rattle.vz_outside.proofs.Calls.{Ran}
 use Rattle.vz_outside.specs.Shelved.{Shelved, Writing, KeepsOthers}
-use Rattle.vz_rules.specs.Plan.{Plan}
-use Rattle.vz_rules.specs.World.{World}
-use Rattle.vz_rules.specs.declared.entry.Event.{Event}
+use Rattle.vz_rules.specs.{Plan.Plan, World.World, Frames.frames_bytes}
+use Rattle.vz_rules.specs.{declared.entry.Event.Event, declared.entry.Entry.Entry, Step.step_in, Step.world, Course.is_drawn, Course.some_waits}
 use Rattle.vz_rules.specs.declared.entry.Event.TheVariants as event
-use Rattle.vz_rules.specs.declared.entry.Entry.{Entry}
-use Rattle.vz_rules.specs.Frames.{frames_bytes}
-use Rattle.vz_rules.specs.Step.{step_in, entry_in, world, NamesClient}
-use Rattle.vz_rules.specs.Course.{is_begin, is_drawn, some_waits}
 use Rattle.vz_rules.proofs.Runs.{world-more}
 use Rattle.vz_player.specs.Played.{Played, played_on, next_entry, frames_of, painted_by}
 use Rattle.vz_player.specs.Taken.{played_all, StopsAmong, AddsFrames, AddsFramesFront}
-use Rattle.vz_player.proofs.Adding.{HasAdded, none_added, more_added, front_added}
-use Rattle.vz_player.proofs.Growing.{frames_then_frames, no_frame}
-use Rattle.vz_threads.specs.Tails.{AreAwaited, AddsBegins, AddsShow, AddsTail, GoesOn, AllComeDue}
+use Rattle.vz_player.proofs.{Adding.HasAdded, Adding.none_added, Adding.more_added, Adding.front_added, Growing.frames_then_frames, Growing.no_frame}
+use Rattle.vz_threads.specs.Tails.{AreAwaited, AddsShow, GoesOn, AllComeDue}
 use Rattle.vz_threads.proofs.Coming_due.{latest, none_late, begin_comes_due, begin_nears}
+use Rattle.vz_desk.proofs.Displaying.{event_is as event_of}
 
 -- Frames
 
@@ -34,12 +27,7 @@ pub record HasWritten (slot : ℕ) (old : Played) (counted : ℕ) (before : Shel
 
 -- none yet
 pub none_written : (slot : ℕ) (old : Played) (count : ℕ) (s : Shelved) → s.mode slot ≡ Some Writing → HasWritten slot old count s old count s
-none_written slot old count s opened = record {
-  more = [];
-  written = sym (append-nil (frames_of old));
-  added = subst (λ (l : List ℕ). HasAdded l slot s s) (sym no_frame) (none_added slot s opened);
-  painted = refl;
-}
+none_written slot old count s opened = grind (arith, nat_tests, common_steps, no_frame, none_added slot s opened)
 
 module _ (slot : ℕ) (old mid : Played) (counted count : ℕ) (a b : Shelved) (before : HasWritten slot old counted a mid count b) where
   -- those of a call more
@@ -55,12 +43,7 @@ module _ (slot : ℕ) (old mid : Played) (counted count : ℕ) (a b : Shelved) (
 
   -- or a front part of them
   pub front_written : (new : Played) (c : Shelved) → AddsFramesFront mid new (b.name slot) b c → AddsFramesFront old new (a.name slot) a c
-  front_written new c adds = (
-    before.more ++ adds.0,
-    adds.1 ∙ (ap (λ l. l ++ adds.0) before.written ∙ append_assoc (frames_of old) before.more adds.0),
-    front_added slot (frames_bytes before.more) a b c before.added (frames_bytes adds.0) [] (frames_bytes (before.more ++ adds.0)) adds.2
-        (frames_then_frames before.more adds.0 ∙ sym (append-nil (frames_bytes before.more ++ frames_bytes adds.0))),
-  )
+  front_written new c adds = grind (arith, nat_tests, common_steps, front_added slot (frames_bytes before.more) a b c before.added (frames_bytes adds.0) [], frames_then_frames before.more adds.0)
 
   -- what was written in all
   pub all_written : AddsFrames old mid (a.name slot) a b
@@ -72,9 +55,7 @@ module _ (slot : ℕ) (old mid : Played) (counted count : ℕ) (a b : Shelved) (
 goes_by : (p : Played) (events : List Event) → GoesOn p (played_all p events)
 unfolding played_all played_on
 goes_by p [] = record { more = []; history = sym (append-nil p.history); plan = refl; buffers = refl }
-goes_by p (e ∷ events) =
-    let r = goes_by (played_on p e) events in
-    record { more = next_entry p e ∷ r.more; history = r.history ∙ append_assoc p.history (next_entry p e ∷ []) r.more; plan = r.plan; buffers = r.buffers }
+goes_by p (e ∷ events) = grind (arith, nat_tests, common_steps, goes_by (played_on p e) events)
 
 -- also where the player stopped among them
 pub stopped_goes : (old new : Played) (events : List Event) → StopsAmong old events new → GoesOn old new
@@ -97,25 +78,12 @@ stopped_goes old new events stops =
 
 -- behind entries that came before
 pub then_goes : (old mid new : Played) (first : List Entry) → mid ≡ record old { history = old.history ++ first } → GoesOn mid new → GoesOn old new
-then_goes old mid new first is r = record {
-  more = first ++ r.more;
-  history = r.history ∙ (ap (λ (p : Played). p.history ++ r.more) is ∙ append_assoc old.history first r.more);
-  plan = r.plan ∙ ap (λ (p : Played). p.plan) is;
-  buffers = r.buffers ∙ ap (λ (p : Played). p.buffers) is;
-}
+then_goes old mid new first is r = grind (arith, nat_tests, common_steps)
 
 -- one event was taken
 pub one_played : (old new : Played) (v : Event) → new ≡ played_all old (v ∷ []) → new ≡ record old { history = old.history ++ next_entry old v ∷ [] }
 unfolding played_all played_on
 one_played old new v is = is
-
--- an event is of no client
-one_named : (p : Plan) (v : Event) (k : ℕ) (d : Event) → NamesClient p v → k < 1 → NamesClient p (get_or (v ∷ []) k d)
-one_named p v zero d named here = named
-one_named p v (suc k) d named here = absurd (omega (arith, here))
-
-pub all_named : (p : Plan) (v : Event) → NamesClient p v → All (NamesClient p) (v ∷ [])
-all_named p v named k d here = one_named p v k d named (omega (arith, here))
 
 -- Begin-frames
 
@@ -127,72 +95,19 @@ pub record HasBegun (old new : Played) : Type 0 where
 
 -- none yet
 pub none_begun : (old : Played) → HasBegun old old
-none_begun old = record {
-  begins = [];
-  grown = ap (λ (h : List Entry). record old { history = h }) (sym (append-nil old.history));
-  begun = record { are_begins = refl; wait = λ n here. absurd (omega (arith, here)) };
-}
-
--- an event is Begin
-abbrev begins_with : Event → Bool
-begins_with v = elim v [ event.Begin ↦ true | _ ↦ false ]
-
-begin_test : (v : Event) → v ≡ event.Begin → begins_with v ≡ true
-begin_test v is = ap begins_with is
-
--- the entry of an event
-event_of : (p : Plan) (w : World) (v : Event) → (entry_in p w v).event ≡ v
-unfolding entry_in
-event_of p w v = refl
-
-wait_more : (p : Plan) (h begins : List Entry) (e : Entry) (n : ℕ) → AreAwaited p h begins → some_waits (world p (h ++ begins)) ≡ true → n < length begins + 1 → some_waits (world p (h ++ take n (begins ++ e ∷ []))) ≡ true
-wait_more p h begins e n before waits here =
-    let same : take n (begins ++ e ∷ []) ≡ take n begins = take-append-le n begins (e ∷ []) (omega (arith, here)) in
-    ap (λ l. some_waits (world p (h ++ l))) same
-    ∙ elim (cases_order n (length begins)) [
-      | inl all ↦ ap (λ l. some_waits (world p (h ++ l))) (take_all n begins (omega (arith, all))) ∙ waits
-      | inr other ↦ elim other [
-        | inl less ↦ before.wait n less
-        | inr more ↦ absurd (omega (arith, here, more))
-      ]
-    ]
+none_begun old = grind (arith, nat_tests, common_steps)
 
 -- one more
 more_begun : (p : Plan) (h begins : List Entry) (e : Entry) → e.event ≡ event.Begin → AreAwaited p h begins → some_waits (world p (h ++ begins)) ≡ true → AreAwaited p h (begins ++ e ∷ [])
-more_begun p h begins e is before waits = record {
-  are_begins = list_all-append is_begin begins (e ∷ [])
-      ∙ and_from (list_all is_begin begins) (list_all is_begin (e ∷ [])) before.are_begins (and_from (is_begin e) true (begin_test e.event is) refl);
-  wait = λ n here. wait_more p h begins e n before waits (omega (arith, here, length-append begins (e ∷ [])));
-}
+more_begun p h begins e is before waits = grind (arith, nat_tests, list_all-append, and_from, take-append-le, cases_order, take_all, length-append)
 
 -- a player took one more
 pub next_begun : (old mid new : Played) → HasBegun old mid → new ≡ played_all mid (event.Begin ∷ []) → some_waits (world mid.plan mid.history) ≡ true → HasBegun old new
-next_begun old mid new before is waits =
-    let e : Entry = next_entry mid event.Begin in
-    record {
-      begins = before.begins ++ e ∷ [];
-      grown = one_played mid new event.Begin is
-          ∙ (ap (λ (p : Played). record p { history = p.history ++ e ∷ [] }) before.grown
-          ∙ ap (λ (h : List Entry). record old { history = h }) (append_assoc old.history before.begins (e ∷ [])));
-      begun = more_begun old.plan old.history before.begins e (event_of mid.plan (world mid.plan mid.history) event.Begin) before.begun
-          (ap (λ (p : Played). some_waits (world p.plan p.history)) (sym before.grown) ∙ waits);
-    }
-
--- behind the last none waits
-pub all_begun : (old mid : Played) → HasBegun old mid → some_waits (world mid.plan mid.history) ≡ false → AddsBegins old mid
-all_begun old mid before none = record {
-  begins = before.begins;
-  grown = before.grown;
-  begun = before.begun;
-  none_waits = ap (λ (p : Played). some_waits (world p.plan p.history)) (sym before.grown) ∙ none;
-}
+next_begun old mid new before is waits = grind (arith, nat_tests, common_steps, one_played mid new, more_begun old.plan old.history before.begins, event_of mid.plan (world mid.plan mid.history))
 
 -- the world of a player that took one more
 begun_world : (mid new : Played) → new ≡ played_all mid (event.Begin ∷ []) → world new.plan new.history ≡ (step_in mid.plan (world mid.plan mid.history) event.Begin).world
-begun_world mid new is =
-    let e : Entry = next_entry mid event.Begin in
-    ap (λ (p : Played). world p.plan p.history) (one_played mid new event.Begin is)
-    ∙ (world-more mid.plan mid.history e ∙ ap (λ (v : Event). (step_in mid.plan (world mid.plan mid.history) v).world) (event_of mid.plan (world mid.plan mid.history) event.Begin))
+begun_world mid new is = grind (arith, nat_tests, one_played mid new, world-more mid.plan mid.history, event_of mid.plan (world mid.plan mid.history))
 
 pub next_due : (mid new : Played) → new ≡ played_all mid (event.Begin ∷ []) → AllComeDue (world mid.plan mid.history) → AllComeDue (world new.plan new.history)
 next_due mid new is due = subst AllComeDue (sym (begun_world mid new is)) (begin_comes_due mid.plan (world mid.plan mid.history) due)
@@ -215,31 +130,12 @@ draw_of old = event_of old.plan (world old.plan old.history) event.Draw
 
 -- nothing was drawn
 pub show_alone : (old new : Played) (drawn : Bool) → new ≡ played_all old (event.Draw ∷ []) → ((h : List Entry) (e : Entry) → new.history ≡ h ++ e ∷ [] → drawn ≡ is_drawn e.reply) → drawn ≡ false → AddsShow old new
-show_alone old new drawn is told none =
-    let grown = one_played old new event.Draw is in
-    record {
-      last = next_entry old event.Draw ∷ [];
-      grown = grown;
-      is_show = (draw_of old, sym (told old.history (next_entry old event.Draw) (ap (λ (p : Played). p.history) grown)) ∙ none);
-    }
+show_alone old new drawn is told none = grind (arith, nat_tests, one_played old new, draw_of old)
 
 -- or it was, and then Done was told
 pub show_done : (old mid new : Played) (drawn : Bool) → mid ≡ played_all old (event.Draw ∷ []) → ((h : List Entry) (e : Entry) → mid.history ≡ h ++ e ∷ [] → drawn ≡ is_drawn e.reply) → drawn ≡ true
     → new ≡ played_all mid (event.Done ∷ []) → AddsShow old new
-show_done old mid new drawn is told some then =
-    let grown = one_played old mid event.Draw is in
-    let d : Entry = next_entry old event.Draw in
-    let e : Entry = next_entry mid event.Done in
-    record {
-      last = d ∷ e ∷ [];
-      grown = one_played mid new event.Done then
-          ∙ (ap (λ (p : Played). record p { history = p.history ++ e ∷ [] }) grown ∙ ap (λ (h : List Entry). record old { history = h }) (append_assoc old.history (d ∷ []) (e ∷ [])));
-      is_show = (
-        draw_of old,
-        sym (told old.history d (ap (λ (p : Played). p.history) grown)) ∙ some,
-        event_of mid.plan (world mid.plan mid.history) event.Done,
-      );
-    }
+show_done old mid new drawn is told some then = grind (arith, nat_tests, common_steps, one_played old mid, one_played mid new, draw_of old, event_of mid.plan (world mid.plan mid.history))
 
 -- the history has one entry more
 pub one_goes : (old mid new : Played) (v : Event) → mid ≡ played_all old (v ∷ []) → GoesOn mid new → GoesOn old new
@@ -247,23 +143,7 @@ one_goes old mid new v is goes = then_goes old mid new (next_entry old v ∷ [])
 
 -- The whole tail
 
-pub tail_is : (old mid new : Played) → AddsBegins old mid → AddsShow mid new → AddsTail old new
-tail_is old mid new first then = record {
-  begins = first.begins;
-  last = then.last;
-  grown = then.grown
-      ∙ (ap (λ (p : Played). record p { history = p.history ++ then.last }) first.grown
-      ∙ ap (λ (h : List Entry). record old { history = h }) (append_assoc old.history first.begins then.last));
-  tail = record { begun = first.begun; none_waits = first.none_waits; is_show = then.is_show };
-}
-
 -- The plan, and that nothing stopped the player, stay
-
-pub plan_grown : (old new : Played) (more : List Entry) → new ≡ record old { history = old.history ++ more } → new.plan ≡ old.plan
-plan_grown old new more is = ap (λ (p : Played). p.plan) is
-
-pub stopped_grown : (old new : Played) (more : List Entry) → new ≡ record old { history = old.history ++ more } → new.stopped ≡ old.stopped
-stopped_grown old new more is = ap (λ (p : Played). p.stopped) is
 
 -- The begin-frames of a player
 

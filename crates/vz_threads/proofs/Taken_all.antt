@@ -1,38 +1,20 @@
 -- That all messages are taken and every entry is in time, and with it that a history is one of a run.
-use Rattle.std.proofs.Common.{◌≡◌, ℕ, zero, suc, ◌+◌, ◌-◌, ◌<◌, ◌≤◌, ◌==◌, not, ◌&&◌, Bool, true, false, inl, inr, Option, Some, None, List, [], ◌∷◌, ◌++◌, length, map, filter, find, get_or, refl, sym, ap, subst, ◌∙◌, arith, cond, slice_get, Contains, is_some}
-use Rattle.std.specs.Prelude.{IsTrue, is_none, nat_lt}
-use Rattle.std.specs.Option.{option_and_then}
-use Rattle.std.specs.List.{list_all}
-use Rattle.std.proofs.lemmas.Bool.{ltb-true, ne_eqb}
-use Rattle.std.proofs.lemmas.Bool.Decides.{nat_tests}
-use Rattle.std.proofs.lemmas.Option.{slice_get_past}
+use Rattle.std.proofs.Common.{◌≡◌, ℕ, zero, suc, ◌+◌, ◌-◌, ◌<◌, ◌≤◌, ◌==◌, not, Bool, true, false, inl, inr, Option, Some, None, List, [], ◌∷◌, ◌++◌, length, map, filter, find, get_or, refl, sym, ap, subst, ◌∙◌, arith, cond, slice_get, Contains, is_some}
+use Rattle.std.specs.{Prelude.IsTrue, Prelude.is_none, Option.option_and_then, List.list_all}
+use Rattle.std.proofs.{lemmas.Bool.ne_eqb, lemmas.Bool.Decides.nat_tests, lemmas.Option.slice_get_past, lemmas.Grind.common_steps}
 use Rattle.vz_frame.specs.declared.message.ClientFile.{ClientFile}
-use Rattle.vz_rules.specs.Plan.{Plan, message_counts}
+use Rattle.vz_rules.specs.{Plan.Plan, Plan.message_counts, Scene.scene_of, declared.entry.Event.Event, declared.entry.Entry.Entry}
 use Rattle.vz_rules.specs.World.{World, Client, Scene, client_at, new_client, new_clients, next_message}
-use Rattle.vz_rules.specs.Scene.{scene_of}
-use Rattle.vz_geom.specs.Rectangle.{is_empty_rect}
-use Rattle.vz_rules.specs.Walk.{walk_of, too_much, walked_subs}
-use Rattle.vz_rules.specs.Damage.{drawn_damage, aggregation_of}
-use Rattle.vz_rules.specs.declared.entry.Event.{Event}
 use Rattle.vz_rules.specs.declared.entry.Event.TheVariants as event
 use Rattle.vz_rules.specs.declared.entry.Reply.TheVariants as reply
-use Rattle.vz_rules.specs.declared.entry.Entry.{Entry}
-use Rattle.vz_rules.specs.Messages.{Answer, says}
-use Rattle.vz_rules.specs.Step.{accepted_frames, answer_to, begin_answer, draw_answer, done_answer, scene_answer, outcome_of, step_in, world, NamesClient, Legal}
-use Rattle.vz_rules.specs.Course.{is_of_client, displayed, AreRounds, IsPaced}
+use Rattle.vz_rules.specs.{Messages.Answer, Messages.says, Course.is_of_client, Course.displayed, Course.AreRounds, Course.IsPaced, Accounts.takes}
+use Rattle.vz_rules.specs.Step.{answer_to, begin_answer, draw_answer, done_answer, scene_answer, outcome_of, step_in, world, NamesClient, Legal}
 use Rattle.vz_rules.specs.Whole.{is_of, mine, is_in_time, TakesAll, AllInTime}
-use Rattle.vz_rules.specs.Accounts.{takes}
-use Rattle.vz_rules.proofs.Given.{number_of}
+use Rattle.vz_rules.proofs.{Given.number_of, Numbered.HasNumbers, Numbered.numbers_are, Numbered.numbers_rise, Prefixes.legal-at, Taken.taken_are}
 use Rattle.vz_rules.proofs.Rising.{Rising}
-use Rattle.vz_rules.proofs.Numbered.{HasNumbers, numbers_are, numbers_rise}
 use Rattle.vz_rules.proofs.Members.{all_at, all_from, contains_cases, contains_none, contains_at, contains_map, map_contains, filter_has}
-use Rattle.vz_rules.proofs.Prefixes.{legal-at}
-use Rattle.vz_rules.proofs.Taken.{taken_are}
-use Rattle.vz_player.specs.Played.{Played}
-use Rattle.vz_threads.specs.Courses.{IsRun}
-use Rattle.vz_threads.specs.Tails.{IsTail, AddsTail, TookAll}
-use Rattle.vz_threads.proofs.Quiet.{reply_of}
-use Rattle.vz_threads.proofs.Places.{at_split, all_pass}
+use Rattle.vz_threads.specs.{Courses.IsRun, Tails.IsTail, Tails.TookAll}
+use Rattle.vz_threads.proofs.{Quiet.reply_of, Places.at_split, Places.all_pass}
 use Rattle.vz_threads.proofs.Ending.{is_shown, AreShown, tail_shown, mine_stay, takes_stay, course_is, ends_after_over, paced_on}
 
 eqb_self : (n : ℕ) → (n == n) ≡ true
@@ -43,12 +25,7 @@ eqb_self n = grind (arith, nat_tests)
 -- where numbers rise, a client is the one that is found by its own
 find_own : (cs : List Client) (x : Client) → Rising number_of cs → Contains cs x → find (λ (y : Client). y.number == x.number) cs ≡ Some x
 find_own [] x rise there = absurd (contains_none x there)
-find_own (y ∷ cs) x rise there =
-    elim (contains_cases y x cs there) [
-      | inl same ↦ ap (λ (b : Bool). cond b (Some y) (find (λ (z : Client). z.number == x.number) cs)) (ap (λ (z : Client). z.number == x.number) same ∙ eqb_self x.number) ∙ ap Some same
-      | inr rest ↦ (let less : y.number < x.number = ltb-true y.number x.number (all_at (λ (z : Client). nat_lt y.number z.number) cs x rise.0 rest) in
-          ap (λ (b : Bool). cond b (Some y) (find (λ (z : Client). z.number == x.number) cs)) (ne_eqb y.number x.number (λ same. omega (arith, same, less))) ∙ find_own cs x rise.1 rest)
-    ]
+find_own (y ∷ cs) x rise there = grind (arith, nat_tests, common_steps, contains_cases y x cs there, eqb_self x.number, all_at, ne_eqb y.number x.number, find_own cs x rise.1)
 
 new_within : (n : ℕ) (files : List ClientFile) (y : Client) → Contains (new_clients n files) y → (n ≤ y.number) × (y.number < n + length files)
 new_within n [] y there = absurd (contains_none y there)
@@ -93,19 +70,11 @@ abbrev AnswersInTime : Answer → Type 0
 AnswersInTime a = is_in_time a.reply ≡ true
 
 by_test : (t : Bool) (a b : Answer) → AnswersInTime a → AnswersInTime b → AnswersInTime (cond t a b)
-by_test true a b h k = h
-by_test false a b h k = k
+by_test t a b h k = grind (arith, nat_tests)
 
 scene_in_time : (p : Plan) (w : World) (scene : Scene) → AnswersInTime (scene_answer p w scene)
 unfolding scene_answer
-scene_in_time p w scene =
-    let walked = walk_of p.size scene in
-    let damage = drawn_damage p.size w.last (accepted_frames w) scene.root walked in
-    let remembered = Some (aggregation_of scene walked) in
-    let drawn : Answer = says (reply.Drawn damage) (record w { last = remembered; in_flight = Some (walked_subs scene walked) }) in
-    let same : Answer = says reply.Unchanged (record w { last = remembered }) in
-    let test : Bool = is_some w.last && is_empty_rect damage in
-    by_test (too_much walked) (says reply.TooMuch w) (cond test same drawn) refl (by_test test same drawn refl refl)
+scene_in_time p w scene = grind (arith, nat_tests)
 
 seen_in_time : (p : Plan) (w : World) (o : Option Scene) → AnswersInTime (elim o [ Some scene ↦ scene_answer p w scene | None ↦ says reply.NoRoot w ])
 seen_in_time p w None = refl
@@ -148,14 +117,7 @@ client_in_time p h x c there named own each =
 
 entry_in_time : (p : Plan) (h : List Entry) (x : Entry) → Legal p h → Contains h x
     → ((c : ℕ) → 1 ≤ c → c ≤ length p.files → length (mine h c) ≡ length (takes h c)) → is_in_time x.reply ≡ true
-entry_in_time p h x legal there each =
-    let place = contains_at h x there in
-    let split = at_split h place.0 x place.1 in
-    let made = legal-at p split.0 split.1 x (subst (Legal p) split.2 legal) in
-    elim (is_shown x) as (λ (b : Bool). is_shown x ≡ b → is_in_time x.reply ≡ true) [
-      | true ↦ λ is. ap is_in_time (reply_of p (world p split.0) x made.1) ∙ shown_in_time p (world p split.0) x.event is
-      | false ↦ λ is. (let c = entry_by x.event false is in client_in_time p h x c.0 there made.0 (c.1 refl) each)
-    ] refl
+entry_in_time p h x legal there each = grind (arith, nat_tests, contains_at h x there, at_split h, legal-at p, is_shown x, reply_of p, shown_in_time p, entry_by x.event false, client_in_time p h x)
 
 -- every entry is in time
 pub all_in_time : (p : Plan) (h : List Entry) → Legal p h → ((c : ℕ) → 1 ≤ c → c ≤ length p.files → length (mine h c) ≡ length (takes h c)) → AllInTime h
@@ -181,12 +143,3 @@ run_is p rounds paced h begins last first over legal tail all rounded ended pace
       in_time = all_in_time p (h ++ (begins ++ last)) legal (λ c from upto.
           ap length (mine_stay h (begins ++ last) c shown) ∙ ((took c from upto).each ∙ sym (ap length (takes_stay h (begins ++ last) c shown))));
     }
-
--- so is that of a player that got such a tail
-pub run_ended : (rounds : ℕ) (paced : Bool) (old new : Played) (first : List Entry) (over : Entry) → AddsTail old new → Legal new.plan new.history
-    → displayed old.history ≡ first ++ over ∷ [] → AreRounds rounds first → over.event ≡ event.Over → (IsTrue paced → IsPaced old.plan old.history rounds)
-    → ((c : ℕ) → 1 ≤ c → c ≤ length old.plan.files → TookAll old.plan old.history c) → IsRun old.plan rounds paced new.history
-run_ended rounds paced old new first over adds legal all rounded ended pace took =
-    let whole : new.history ≡ old.history ++ (adds.begins ++ adds.last) = ap (λ (x : Played). x.history) adds.grown in
-    let good : Legal old.plan (old.history ++ (adds.begins ++ adds.last)) = subst (λ (x : Played). Legal x.plan x.history) adds.grown legal in
-    subst (IsRun old.plan rounds paced) (sym whole) (run_is old.plan rounds paced old.history adds.begins adds.last first over good adds.tail all rounded ended pace took)

@@ -1,33 +1,22 @@
 -- A client's next message is taken where it is not too early and one is left.
-use Rattle.std.proofs.Common.{◌≡◌, ℕ, zero, suc, ◌+◌, ◌-◌, ◌<◌, ◌≤◌, Bool, true, false, cond, Option, Some, None, List, [], ◌∷◌, ◌++◌, map, filter, length, refl, ap, sym, ◌∙◌, arith, get_or, slice_get, length-append}
-use Rattle.std.proofs.lemmas.Bool.{eq-eqb}
-use Rattle.std.proofs.lemmas.List.Elements.{filter-append}
+use Rattle.std.proofs.Common.{◌≡◌, ℕ, zero, suc, ◌+◌, ◌-◌, ◌<◌, ◌≤◌, Bool, true, cond, Option, Some, None, List, [], ◌∷◌, ◌++◌, map, length, refl, ap, sym, ◌∙◌, arith, get_or, slice_get}
+use Rattle.std.proofs.{lemmas.Bool.eq-eqb, lemmas.List.Elements.filter-append, lemmas.Bool.Decides.nat_tests, lemmas.Grind.common_steps}
 use Rattle.std.specs.Option.{option_and_then}
-use Rattle.vz_frame.specs.declared.message.ClientFile.{ClientFile}
-use Rattle.vz_frame.specs.declared.message.Message.{Message}
-use Rattle.vz_rules.specs.Plan.{Plan, message_counts}
+use Rattle.vz_frame.specs.{declared.message.ClientFile.ClientFile, declared.message.Message.Message}
+use Rattle.vz_rules.specs.{Plan.Plan, Plan.message_counts, declared.entry.Entry.Entry, Accounts.takes, Accounts.message_at}
 use Rattle.vz_rules.specs.declared.entry.Event.TheVariants as event
 use Rattle.vz_rules.specs.declared.entry.Reply.TheVariants as reply
 use Rattle.vz_rules.specs.declared.entry.Refusal.TheVariants as refusal
-use Rattle.vz_rules.specs.declared.entry.Entry.{Entry}
-use Rattle.vz_rules.specs.World.{World, Client, client_at, next_message}
+use Rattle.vz_rules.specs.{World.World, World.Client, World.client_at, World.next_message, Whole.is_of, Whole.mine, Whole.is_in_time}
 use Rattle.vz_rules.specs.Messages.{Answer, says, refused, accepted, message_answer, known_client_answer, client_answer}
 use Rattle.vz_rules.specs.Step.{answer_to, outcome_of, step_in, world, entry_in, Legal}
-use Rattle.vz_rules.specs.Whole.{is_of, mine, is_in_time}
-use Rattle.vz_rules.specs.Accounts.{takes, message_at}
-use Rattle.vz_rules.proofs.Cases.{message_cases, number_at}
-use Rattle.vz_rules.proofs.Numbered.{client_there, numbers_are}
+use Rattle.vz_rules.proofs.{Cases.message_cases, Cases.number_at, Numbered.client_there, Numbered.numbers_are, Kept_small.at_there as some_at}
 use Rattle.vz_rules.proofs.Taken.{taken_are}
 use Rattle.vz_threads.specs.Crews.{messages_of}
 
 -- a reply is that a message comes too early
 abbrev pub IsEarly : Entry → Type 0
 IsEarly e = e.reply ≡ reply.Refused refusal.NotYet
-
-some_at : {A : Type 0} (xs : List A) (k : ℕ) → k < length xs → (x : A) × (slice_get xs k ≡ Some x)
-some_at [] k l = absurd (omega arith)
-some_at (x ∷ xs) zero l = (x, refl)
-some_at (x ∷ xs) (suc k) l = some_at xs k (omega arith)
 
 message_in : (files : List ClientFile) (n k : ℕ) → k < get_or (map (λ (file : ClientFile). length file.messages) files) n 0
     → (m : Message) × (option_and_then (λ (f : ClientFile). slice_get f.messages k) (slice_get files n) ≡ Some m)
@@ -52,16 +41,10 @@ answered_in_time w x m = message_cases w x (λ m a. (a.reply ≡ reply.Refused r
   left = λ early. refl;
 }) m
 
-closed_by : (w : World) (x : Client) (m : Message) (t : Bool) → ((cond t (refused w x refusal.AlreadyClosed) (message_answer w x m)).reply ≡ reply.Refused refusal.NotYet → ⊥)
-    → is_in_time (cond t (refused w x refusal.AlreadyClosed) (message_answer w x m)).reply ≡ true
-closed_by w x m true early = refl
-closed_by w x m false early = answered_in_time w x m early
-
 known_by : (p : Plan) (w : World) (x : Client) (m : Message) (o : Option Message) → o ≡ Some m
     → ((elim o as (λ _. Answer) [ None ↦ says (reply.Refused refusal.NoMessage) w | Some n ↦ cond x.closed (refused w x refusal.AlreadyClosed) (message_answer w x n) ]).reply ≡ reply.Refused refusal.NotYet → ⊥)
     → is_in_time (elim o as (λ _. Answer) [ None ↦ says (reply.Refused refusal.NoMessage) w | Some n ↦ cond x.closed (refused w x refusal.AlreadyClosed) (message_answer w x n) ]).reply ≡ true
-known_by p w x m None e early = absurd (cc)
-known_by p w x m (Some n) e early = closed_by w x n x.closed early
+known_by p w x m o e early = grind (arith, nat_tests, answered_in_time)
 
 client_by : (p : Plan) (w : World) (x : Client) (m : Message) (o : Option Client) → o ≡ Some x → next_message p x ≡ Some m
     → ((elim o as (λ _. Answer) [ None ↦ says (reply.Refused refusal.NoMessage) w | Some y ↦ known_client_answer p w y ]).reply ≡ reply.Refused refusal.NotYet → ⊥)
@@ -99,22 +82,12 @@ entry_in_time p h c e l some_client known left is early =
 
 -- How many messages a client took
 
-one_taken : (e : Entry) (s : Bool) → length (filter (λ (x : Entry). is_in_time x.reply) (cond s (e ∷ []) [])) ≡ cond s (cond (is_in_time e.reply) 1 0) 0
-one_taken e true = elim (is_in_time e.reply) as (λ (t : Bool). length (cond t (e ∷ []) []) ≡ cond t 1 0) [ true ↦ refl | false ↦ refl ]
-one_taken e false = refl
-
 taken_more : (h : List Entry) (e : Entry) (c : ℕ) → length (takes (h ++ e ∷ []) c) ≡ length (takes h c) + cond (is_of c e) (cond (is_in_time e.reply) 1 0) 0
 unfolding takes mine
-taken_more h e c =
-    ap (λ (l : List Entry). length (filter (λ x. is_in_time x.reply) l)) (filter-append (is_of c) h (e ∷ []))
-    ∙ ap length (filter-append (λ (x : Entry). is_in_time x.reply) (filter (is_of c) h) (filter (is_of c) (e ∷ [])))
-    ∙ length-append (filter (λ (x : Entry). is_in_time x.reply) (filter (is_of c) h)) (filter (λ (x : Entry). is_in_time x.reply) (filter (is_of c) (e ∷ [])))
-    ∙ ap (λ n. length (filter (λ (x : Entry). is_in_time x.reply) (filter (is_of c) h)) + n) (one_taken e (is_of c e))
+taken_more h e c = grind (arith, nat_tests, common_steps, filter-append (is_of c) h (e ∷ []), filter-append)
 
 counted_before : (b s : Bool) (k now old : ℕ) → s ≡ true → now ≡ k + cond s (cond b 1 0) 0 → now ≡ cond b (old + 1) old → k ≡ old
-counted_before true true k now old of is more = omega arith
-counted_before false true k now old of is more = omega arith
-counted_before b false k now old of is more = absurd (cc)
+counted_before b s k now old of is more = grind (arith, nat_tests)
 
 -- how many it took before an entry, where so many are counted behind it
 pub taken_before : (h : List Entry) (e : Entry) (c now old : ℕ) → is_of c e ≡ true → now ≡ length (takes (h ++ e ∷ []) c) → now ≡ cond (is_in_time e.reply) (old + 1) old

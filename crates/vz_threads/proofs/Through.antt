@@ -1,40 +1,27 @@
 -- A run whose frames went through a pipe: what the display sent is what was written.
-use Rattle.std.proofs.Common.{◌≡◌, ℕ, ◌+◌, ◌≤◌, Bool, List, [], ◌∷◌, ◌++◌, length, take, Option, Some, Result, Ok, Err, OnOk, OnErr, All, IsTrue, refl, sym, ap, ◌∙◌, subst, arith, append-nil, append_assoc, take_all}
+use Rattle.std.proofs.Common.{◌≡◌, ℕ, ◌≤◌, Bool, List, [], ◌∷◌, ◌++◌, length, take, Option, Some, Result, Ok, Err, All, IsTrue, refl, sym, ap, ◌∙◌, subst, arith, append-nil, append_assoc, take_all}
 use Rattle.std.specs.Prelude.{unwrap_or}
 use Rattle.vz_buffers.specs.Canvas.{Canvas}
-use Rattle.std.proofs.lemmas.Grind.{flat_map-append}
+use Rattle.std.proofs.{lemmas.Grind.flat_map-append, lemmas.Bool.Decides.nat_tests}
 use mathlib.Core.List.{IsPrefix}
-use Rattle.vz_outside.specs.Shelved.{Shelved, Name, Writing, KeepsOthers, Appends, AppendsFront, Behaves}
+use Rattle.vz_outside.specs.Shelved.{Shelved, Writing, KeepsOthers, Appends, AppendsFront, Behaves}
 use Rattle.vz_outside.specs.declared.shelf.ShelfError.{ShelfError}
 use Rattle.vz_outside.specs.declared.shelf.ShelfError.TheVariants.{Failed, Memory}
-use Rattle.vz_outside.proofs.Calls.{Ran, ran_one, ran_behaves}
-use Rattle.vz_rules.specs.declared.entry.Entry.{Entry}
-use Rattle.vz_rules.specs.Frames.{painted}
-use Rattle.vz_rules.specs.Plan.{Plan}
-use Rattle.vz_rules.specs.Step.{Legal}
+use Rattle.vz_outside.proofs.{Calls.Ran, Calls.ran_one, Calls.ran_behaves, Behaving.memory_behaves, Behaving.then_behaves}
+use Rattle.vz_rules.specs.{declared.entry.Entry.Entry, Plan.Plan, Step.Legal}
 use Rattle.atomic_table.specs.Seated.{TableId}
-use Rattle.vz_desk.specs.declared.totals.Totals.{Totals}
-use Rattle.vz_desk.specs.Totals.{DisplayTotals}
-use Rattle.vz_desk.specs.Owners.{Owner}
-use Rattle.vz_desk.specs.Gathering.{IsGatheredClient, IsGatheredDisplay}
-use Rattle.vz_player.proofs.Adding.{HasAdded, none_added, more_added, front_added, others_kept}
-use Rattle.vz_outside.proofs.Behaving.{memory_behaves, then_behaves}
-use Rattle.vz_threads.specs.Courses.{frames_of}
+use Rattle.vz_desk.specs.{declared.totals.Totals.Totals, Totals.DisplayTotals, Owners.Owner, Gathering.IsGatheredClient, Gathering.IsGatheredDisplay}
+use Rattle.vz_player.proofs.Adding.{HasAdded, more_added, front_added, others_kept}
+use Rattle.vz_threads.specs.{Courses.frames_of, Outlets.Outlook, Outlets.Fixed, Outlets.file_of, Rounds.Setup, Rounds.AreShown}
 use Rattle.vz_pipe.specs.Ends.{PipeId, Taking}
-use Rattle.vz_threads.specs.Outlets.{Outlook, Fixed, file_of}
-use Rattle.vz_threads.specs.Pipes.{canvas_bytes, bytes_of, paper, Wrote, WritesLeft, BeginsLeft, IsWrittenOn}
-use Rattle.vz_threads.specs.Rounds.{Setup, AreShown}
+use Rattle.vz_threads.specs.Pipes.{canvas_bytes, bytes_of, paper, Wrote, BeginsLeft, IsWrittenOn}
 use Rattle.vz_threads.specs.Runs.{IsReady, IsOpened, IsUpToTail, IsCutThere, HasRun}
-use Rattle.vz_threads.proofs.Crewing.{crew_same}
-use Rattle.vz_threads.proofs.Following.{same_self, cut_at}
-use Rattle.vz_threads.proofs.Gathered.{has_run}
-use Rattle.vz_threads.proofs.Finished.{whole_front}
-use Rattle.vz_threads.proofs.Papers.{paper_front, sent_is, front_is, front_of_front, front_longer}
+use Rattle.vz_threads.proofs.{Crewing.crew_same, Gathered.has_run, Finished.whole_front}
+use Rattle.vz_threads.proofs.{Following.same_self, Following.cut_at, Papers.sent_is, Papers.front_is, Papers.front_of_front, Papers.front_longer}
 
 -- the same, of a receiver and a shelf that were lent and came back
 pub wrote_there : {F : Type 0} (shelved : F → Shelved) (r s : Taking Canvas) (x y : F) (slot : ℕ) (a : Shelved) (result : Result (Unit {0}) ShelfError) → r ≡ s → x ≡ y → Wrote (bytes_of s.taken) slot a (shelved y) result → Wrote (bytes_of r.taken) slot a (shelved x) result
-wrote_there shelved r s x y slot a result e f w =
-    subst (λ (t : Taking Canvas). Wrote (bytes_of t.taken) slot a (shelved x) result) (sym e) (subst (λ z. Wrote (bytes_of s.taken) slot a (shelved z) result) (sym f) w)
+wrote_there shelved r s x y slot a result e f w = grind (arith, nat_tests)
 
 pub bytes_then_bytes : (taken more sent : List Canvas) → sent ≡ taken ++ more → bytes_of sent ≡ bytes_of taken ++ bytes_of more
 bytes_then_bytes taken more sent is = ap bytes_of is ∙ flat_map-append canvas_bytes taken more
@@ -54,47 +41,20 @@ module _ (k : Setup) (rounds : ℕ) (paced : Bool) (start now first last : Outlo
 
   module _ (opened : start.shelf.mode start.fixed.slot ≡ Some Writing) (empty : first.shelf ≡ paper []) (full : last.shelf ≡ paper (bytes_of sent)) (fixed : now.fixed ≡ start.fixed) (display : now.display ≡ last.display) (before : start.steps ≡ first.steps) (after : now.steps ≡ last.steps) where
     whole_frames : AreShown k first last h → bytes_of sent ≡ frames
-    whole_frames are =
-        sent_is frames (bytes_of sent)
-        (subst (λ (s : Shelved). Appends frames (s.name first.fixed.slot) s (paper (bytes_of sent))) empty
-        (subst (λ (s : Shelved). Appends frames (file_of first) first.shelf s) full are.written))
+    whole_frames are = grind (arith, nat_tests, sent_is)
 
     front_frames : (r : Result (Unit {0}) ShelfError) → IsCutThere k first last h r → IsFront
-    front_frames r cut =
-        front_is frames (bytes_of sent)
-        (subst (λ (s : Shelved). AppendsFront frames (s.name first.fixed.slot) s (paper (bytes_of sent))) empty
-        (subst (λ (s : Shelved). AppendsFront frames (file_of first) first.shelf s) full cut.begun))
+    front_frames r cut = grind (arith, nat_tests, front_is)
 
     either_front : (r : Result (Unit {0}) ShelfError) → HasRun k rounds paced first last h r → IsFront
     either_front (Ok x) run = (length frames, omega arith, whole_frames run.whole.shown ∙ sym (take_all (length frames) frames (omega arith)))
     either_front (Err e) run = front_frames (Err e) run.cut
 
     up_to : IsUpToTail k rounds paced first last h → HasAdded (bytes_of sent) start.fixed.slot start.shelf now.shelf → IsUpToTail k rounds paced start now h
-    up_to w added = record {
-      first = w.first;
-      over = w.over;
-      all = w.all;
-      made = w.made;
-      is_over = w.is_over;
-      pace = w.pace;
-      took = w.took;
-      shown = record {
-        fixed = fixed;
-        display = display ∙ w.shown.display;
-        counted = after ∙ w.shown.counted ∙ ap (λ (n : ℕ). n + painted k.plan h k.buffers) (sym before);
-        written = subst (λ (l : List ℕ). Appends l (file_of start) start.shelf now.shelf) (whole_frames w.shown) added.appended;
-        others = added.others;
-        behaves = ran_behaves tt start.shelf now.shelf added.ran;
-      };
-    }
+    up_to w added = grind (arith, nat_tests, whole_frames w.shown, ran_behaves)
 
     there : (r : Result (Unit {0}) ShelfError) → IsFront → AppendsFront (bytes_of sent) (file_of start) start.shelf now.shelf → KeepsOthers (file_of start) start.shelf now.shelf → Behaves start.shelf now.shelf r → IsCutThere k start now h r
-    there r front begun others behaves = record {
-      fixed = fixed;
-      begun = front_of_front front.0 frames (file_of start) start.shelf now.shelf front.1 (subst (λ (l : List ℕ). AppendsFront l (file_of start) start.shelf now.shelf) front.2 begun);
-      others = others;
-      behaves = behaves;
-    }
+    there r front begun others behaves = grind (arith, nat_tests, front_of_front front.0)
 
     wrote_taken : (x : Unit {0}) → Wrote (bytes_of taken) start.fixed.slot start.shelf b (Ok x) → HasAdded (bytes_of taken) start.fixed.slot start.shelf b
     wrote_taken x w = record { opened = opened; ran = ran_one x start.shelf b w.behaves; appended = w.written; others = w.others }
@@ -143,17 +103,13 @@ pub record HasWrittenLeft (before now : List Canvas) (slot : ℕ) (a b : Shelved
   pub all : now ≡ before ++ more
   pub added : HasAdded (bytes_of more) slot a b
 
-pub none_left : (before : List Canvas) (slot : ℕ) (a : Shelved) → a.mode slot ≡ Some Writing → HasWrittenLeft before before slot a a
-none_left before slot a opened = record { more = []; all = sym (append-nil before); added = none_added slot a opened }
-
 one_more_frame : (frames : List Canvas) (x : Canvas) → bytes_of (frames ++ x ∷ []) ≡ bytes_of frames ++ (canvas_bytes x)
 one_more_frame frames x = flat_map-append canvas_bytes frames (x ∷ []) ∙ ap (λ (l : List ℕ). bytes_of frames ++ l) (append-nil (canvas_bytes x))
 
 -- one more frame was taken and written
 pub frame_added : (taken new : List Canvas) (x : Canvas) (slot : ℕ) (a b c : Shelved) → HasAdded (bytes_of taken) slot a b → new ≡ taken ++ x ∷ [] → Appends (canvas_bytes x) (b.name slot) b c → KeepsOthers (b.name slot) b c → Behaves {T = Unit {0}} b c (Ok tt)
     → HasAdded (bytes_of new) slot a c
-frame_added taken new x slot a b c before is written others behaves =
-    more_added slot (bytes_of taken) a b c before (canvas_bytes x) (bytes_of new) written others (ran_one tt b c behaves) (ap bytes_of is ∙ one_more_frame taken x)
+frame_added taken new x slot a b c before is written others behaves = grind (arith, nat_tests, more_added, ran_one, one_more_frame)
 
 -- or begun
 pub frame_begun : (taken new : List Canvas) (x : Canvas) (slot : ℕ) (a b c : Shelved) → HasAdded (bytes_of taken) slot a b → new ≡ taken ++ x ∷ [] → AppendsFront (canvas_bytes x) (b.name slot) b c → AppendsFront (bytes_of new) (a.name slot) a c
@@ -178,9 +134,6 @@ left_begun start taken new sent x slot a b c before is prefix begun =
           (frame_begun before.more more x slot a b c before.added refl begun),
     )
 
-pub left_written : (start taken sent : List Canvas) (slot : ℕ) (a b : Shelved) → HasWrittenLeft start taken slot a b → taken ≡ sent → WritesLeft start sent (a.name slot) a b
-left_written start taken sent slot a b before same = (before.more, sym same ∙ before.all, before.added.appended)
-
 -- A run that is given up before it begins
 
 pub given_up : (k : Setup) (rounds : ℕ) (paced : Bool) (start : Outlook) (id : TableId) (callers : ℕ) (q : Plan) (messages : List ℕ) (ends : List (Owner Totals)) (d : Owner DisplayTotals) (h : List Entry)
@@ -193,32 +146,15 @@ given_up k rounds paced start id callers q messages ends d h ready opened legal 
 
 -- a run may begin with a display whose frames go through a pipe
 pub ready_piped : (k : Setup) (start first : Outlook) → IsReady k start → first.display ≡ start.display → first.fixed.size ≡ start.fixed.size → first.shelf ≡ paper [] → IsReady k first
-ready_piped k start first ready display size empty = record {
-  begins = record {
-    sides = ready.begins.sides;
-    size = ready.begins.size ∙ sym size;
-    some = ready.begins.some;
-    opened = subst (λ (s : Shelved). s.mode first.fixed.slot ≡ Some Writing) (sym empty) refl;
-  };
-  display = display ∙ ready.display;
-}
+ready_piped k start first ready display size empty = grind (arith, nat_tests)
 
 -- What is sent
-
--- a frame more was sent
-pub sent_more : (sent new : List Canvas) (x : Canvas) (bytes : List ℕ) → new ≡ sent ++ x ∷ [] → (canvas_bytes x) ≡ bytes → Appends bytes [] (paper (bytes_of sent)) (paper (bytes_of new))
-sent_more sent new x bytes is same told = ap Some (ap bytes_of is ∙ one_more_frame sent x ∙ ap (λ (l : List ℕ). bytes_of sent ++ l) same)
-
--- or none was
-pub sent_none : (sent new : List Canvas) (bytes : List ℕ) → new ≡ sent → AppendsFront bytes [] (paper (bytes_of sent)) (paper (bytes_of new))
-sent_none sent new bytes same = subst (λ l. AppendsFront bytes [] (paper (bytes_of sent)) (paper (bytes_of l))) (sym same) (paper_front (bytes_of sent) bytes)
 
 -- Once the threads have ended
 
 -- what an outlet borrows stays, and the pipe of its frames
 pub fixed_stays : (k : Setup) (rounds : ℕ) (paced : Bool) (start now : Outlook) (h : List Entry) (r : Result (Unit {0}) ShelfError) → HasRun k rounds paced start now h r → now.fixed ≡ start.fixed
-fixed_stays k rounds paced start now h (Ok x) run = run.whole.shown.fixed
-fixed_stays k rounds paced start now h (Err e) run = run.cut.fixed
+fixed_stays k rounds paced start now h r run = grind (arith, nat_tests)
 
 pub pipe_stays : (a b : Fixed) (x y : PipeId Canvas) → a ≡ b → a.pipe ≡ Some x → b.pipe ≡ Some y → x ≡ y
 pipe_stays a b x y same is was = ap (λ (o : Option (PipeId Canvas)). unwrap_or o x) (sym is ∙ ap (λ (f : Fixed). f.pipe) same ∙ was)

@@ -1,27 +1,15 @@
 -- What an end at work keeps.
-use Rattle.std.proofs.Common.{◌≡◌, ℕ, ◌+◌, ◌<◌, ◌≤◌, Bool, true, false, cond, Option, Some, List, [], ◌∷◌, ◌++◌, map, length, refl, ap, sym, ◌∙◌, subst, arith}
+use Rattle.std.proofs.Common.{◌≡◌, ℕ, ◌+◌, ◌<◌, ◌≤◌, Bool, true, cond, List, [], ◌∷◌, ◌++◌, map, length, refl, ap, sym, ◌∙◌, subst, arith}
 use Rattle.atomic_table.specs.Seated.{TableId}
-use Rattle.vz_rules.specs.Plan.{Plan, message_counts}
-use Rattle.vz_rules.specs.declared.entry.Entry.{Entry}
-use Rattle.vz_rules.specs.Whole.{is_in_time}
-use Rattle.vz_rules.specs.Accounts.{takes}
+use Rattle.vz_rules.specs.{Plan.Plan, Plan.message_counts, declared.entry.Entry.Entry, Whole.is_in_time, Accounts.takes}
 use Rattle.std.specs.Prelude.{Result, Ok, IfOk, IsFalse}
-use Rattle.vz_desk.specs.declared.answer.Note.{Note}
-use Rattle.vz_desk.specs.declared.answer.Answer.{Answer}
-use Rattle.vz_desk.specs.declared.answer.Answer.TheVariants.{Did}
-use Rattle.vz_desk.specs.Books.{numbered}
+use Rattle.vz_desk.specs.{declared.answer.Note.Note, declared.answer.Answer.Answer, Answers.Told, Answers.is_early, Answers.Answered, Answers.Waited}
+use Rattle.vz_desk.specs.{declared.answer.Answer.TheVariants.Did, Books.numbered, Owners.Owner, Owners.IsSameOwner, Owners.MakesNone, Owners.Stands}
 use Rattle.vz_desk.specs.declared.totals.Totals.{Totals}
-use Rattle.vz_desk.specs.Owners.{Owner, IsSameOwner, MakesNone, Stands}
-use Rattle.vz_desk.specs.Answers.{Told, is_early, Answered, Waited}
 use Rattle.vz_threads.specs.Crews.{messages_of, IsAtWork, MayTake, WorksOn}
 use Rattle.vz_threads.proofs.Taking.{IsEarly, took_one}
-
-plans_same : (a b : Plan) → ◌≡◌ {A = Option Plan} (Some a) (Some b) → a ≡ b
-plans_same a b e = cc
-
-entries_of : (h : List Entry) → map (λ (x : ℕ × Entry). x.1) (numbered h) ≡ h
-entries_of [] = refl
-entries_of (e ∷ h) = ap (λ (l : List Entry). e ∷ l) (entries_of h)
+use Rattle.vz_desk.proofs.Owning.{same_plan as plans_same, entries_of_numbered as entries_of}
+use Rattle.std.proofs.lemmas.Bool.Decides.{nat_tests}
 
 same_history : (g h : List Entry) → numbered g ≡ numbered h → g ≡ h
 same_history g h e = sym (entries_of g) ∙ ap (map (λ (x : ℕ × Entry). x.1)) e ∙ entries_of h
@@ -37,28 +25,15 @@ may_then id count a b m w = record { plan = m.plan; work = w.work id m.plan m.wo
 
 -- a call that makes no entry
 pub works_none : (a b : Owner Totals) → IsSameOwner a b → MakesNone a b → WorksOn a b
-works_none a b s n = record {
-  number = s.number;
-  work = λ id p w. record {
-    desk = s.desk ∙ w.desk;
-    plan = s.plan ∙ w.plan;
-    client = subst (λ (c : ℕ). (1 ≤ c) × (c ≤ length p.files)) (sym s.number) w.client;
-    timely = ap (λ (t : Totals). t.calls) n.totals ∙ w.timely ∙ sym (ap (λ (t : Totals). t.taken) n.totals);
-    few = subst (λ (x : ℕ × ℕ). x.0 ≤ messages_of (message_counts p) x.1) (λ i. (sym (ap (λ (t : Totals). t.taken) n.totals) i, sym s.number i)) w.few;
-  };
-}
+works_none a b s n = grind (arith, nat_tests)
 
 -- where it is at work in one plan, it is so in each that it was at work in
 works_by : (id : TableId) (p : Plan) (a b : Owner Totals) → IsAtWork id p a → IsAtWork id p b → b.number ≡ a.number → WorksOn a b
-works_by id p a b old new number = record {
-  number = number;
-  work = λ j q w. subst (λ (x : TableId × Plan). IsAtWork x.0 x.1 b) (λ i. ((sym old.desk ∙ w.desk) i, plans_same p q (sym old.plan ∙ w.plan) i)) new;
-}
+works_by id p a b old new number = grind (arith, nat_tests, plans_same p)
 
 -- the entry in time, the totals say so
 more_by : (b : Bool) (n m : ℕ) → b ≡ true → n ≡ cond b (m + 1) m → n ≡ m + 1
-more_by true n m e is = is
-more_by false n m e is = absurd (cc)
+more_by b n m e is = grind (arith, nat_tests)
 
 -- a call that made an entry, which did not come too early
 pub works_told : (id : TableId) (count : ℕ) (a b : Owner Totals) (note : Note) → MayTake id count a → a.totals.taken < count → IsSameOwner a b → (t : Told a b note) → (IsEarly t.made → ⊥) → Stands b

@@ -1,35 +1,21 @@
 -- How many returns a reply has.
-use Rattle.std.proofs.Common.{◌≡◌, ℕ, ◌+◌, ◌*◌, ◌<◌, ◌≤◌, Bool, true, false, ◌&&◌, ◌==◌, Option, Some, None, inl, inr, List, [], ◌∷◌, length, refl, ap, sym, ◌∙◌, arith, cond, Contains, sum_by, is_some}
+use Rattle.std.proofs.Common.{◌≡◌, ℕ, ◌+◌, ◌*◌, ◌<◌, ◌≤◌, Bool, true, ◌==◌, Option, Some, None, List, [], ◌∷◌, length, refl, ap, sym, ◌∙◌, arith, cond, Contains, sum_by, is_some}
 use Rattle.std.specs.Prelude.{nat_lt}
-use Rattle.std.proofs.lemmas.Bool.{eq-eqb, lt-ltb}
-use Rattle.std.proofs.lemmas.List.Sums.{sum_by-cons}
+use Rattle.std.proofs.{lemmas.Bool.eq-eqb, lemmas.Bool.lt-ltb, lemmas.List.Sums.sum_by-cons, lemmas.Bool.Decides.nat_tests}
 use Rattle.vz_base.specs.declared.limits.TheConstants.{GREATEST_NUMBER, MOST_MESSAGES}
-use Rattle.vz_geom.specs.Rectangle.{is_empty_rect}
 use Rattle.vz_frame.specs.declared.message.Message.{Message}
-use Rattle.vz_frame.specs.declared.message.Message.TheVariants.{Upload, Submit, DidNotProduce, Reclaim, SetRoot, Hierarchy, Await, Close}
-use Rattle.vz_rules.specs.Plan.{Plan, IsPlan}
+use Rattle.vz_rules.specs.{Plan.Plan, Plan.IsPlan, Scene.scene_of}
 use Rattle.vz_rules.specs.World.{World, Client, Resource, Scene, client_at, next_message}
-use Rattle.vz_rules.specs.Scene.{scene_of}
-use Rattle.vz_rules.specs.Walk.{walk_of, too_much}
-use Rattle.vz_rules.specs.Damage.{drawn_damage}
-use Rattle.vz_rules.specs.Messages.{Answer, says, taking, refused, unless_refused, in_use, relate, upload_answer, submit_answer, submit_refusal, accepted, id_of, root_answer, hierarchy_answer, hierarchy_refusal, await_answer, message_answer, known_client_answer, client_answer}
-use Rattle.vz_rules.specs.Step.{begin_answer, scene_answer, draw_answer, done_answer, answer_to, accepted_frames, outcome_of, step_in, entry_in, world}
-use Rattle.vz_rules.specs.declared.entry.Entry.{Entry}
-use Rattle.vz_rules.specs.declared.entry.Event.{Event}
+use Rattle.vz_rules.specs.Messages.{Answer, says, refused, upload_answer, submit_answer, accepted, root_answer, hierarchy_answer, await_answer, message_answer, known_client_answer, client_answer}
+use Rattle.vz_rules.specs.Step.{begin_answer, scene_answer, draw_answer, done_answer, answer_to, outcome_of, step_in, entry_in, world}
+use Rattle.vz_rules.specs.{declared.entry.Entry.Entry, declared.entry.Event.Event, declared.entry.Reply.Reply, declared.entry.Returned.Returned}
 use Rattle.vz_rules.specs.declared.entry.Event.TheVariants as event
-use Rattle.vz_rules.specs.declared.entry.Reply.{Reply}
 use Rattle.vz_rules.specs.declared.entry.Reply.TheVariants as reply
-use Rattle.vz_rules.specs.declared.entry.Refusal.{Refusal}
 use Rattle.vz_rules.specs.declared.entry.Refusal.TheVariants as refusal
-use Rattle.vz_rules.specs.declared.entry.Returned.{Returned}
 use Rattle.vz_rules.specs.Kept.{KeepsAlways, KeepsPlan, KeepsMessages, KeepsReturn, count_of}
 use Rattle.vz_rules.proofs.Members.{contains_here, contains_there, contains_cases, contains_none, find_at}
-use Rattle.vz_rules.proofs.Kept_returns.{storing}
-use Rattle.vz_rules.proofs.Kept_first.{keeps_world}
-use Rattle.vz_rules.proofs.Kept_planned.{plan_world}
-use Rattle.vz_rules.proofs.Kept_sending.{messages_world}
-use Rattle.vz_rules.proofs.Kept_small.{small_resource}
-use Rattle.vz_rules.proofs.Kept_few.{lists_short}
+use Rattle.vz_rules.proofs.{Kept_returns.storing, Kept_few.lists_short}
+use Rattle.vz_rules.proofs.{Kept_first.keeps_world, Kept_planned.plan_world, Kept_sending.messages_world, Kept_small.small_resource}
 use Rattle.vz_turn.specs.Briefs.{brief_in}
 use Rattle.vz_turn.specs.declared.brief.Brief.TheVariants as brief
 
@@ -42,11 +28,7 @@ sum_more f g (y ∷ ys) h = omega (arith, sum_by-cons f y ys, sum_by-cons g y ys
 -- one term is greater
 sum_one_more : {B : Type 0} (f g : B → ℕ) (ys : List B) (z : B) → ((y : B) → f y ≤ g y) → Contains ys z → f z + 1 ≤ g z → sum_by f ys + 1 ≤ sum_by g ys
 sum_one_more f g [] z h c one = absurd (contains_none z c)
-sum_one_more f g (y ∷ ys) z h c one =
-    elim (contains_cases y z ys c) [
-      | inl e ↦ omega (arith, sum_by-cons f y ys, sum_by-cons g y ys, ap f e, ap g e, one, sum_more f g ys h)
-      | inr m ↦ omega (arith, sum_by-cons f y ys, sum_by-cons g y ys, h y, sum_one_more f g ys z h m one)
-    ]
+sum_one_more f g (y ∷ ys) z h c one = grind (arith, nat_tests, contains_cases y z ys c, sum_by-cons f y ys, sum_by-cons g y ys, sum_more f g ys h, sum_one_more f g ys z h)
 
 sum_up_to : {B : Type 0} (f : B → ℕ) (m : ℕ) (ys : List B) → ((y : B) → Contains ys y → f y ≤ m) → sum_by f ys ≤ length ys * m
 sum_up_to f m [] h = omega arith
@@ -55,8 +37,7 @@ sum_up_to f m (y ∷ ys) h = grind (arith, sum_by-cons f y ys, h y (contains_her
 -- The queue of a client
 
 counts : (t : Bool) (n : ℕ) → t ≡ true → cond t n 0 ≡ n
-counts true n e = refl
-counts false n e = absurd (cc)
+counts t n e = grind (arith, nat_tests)
 
 -- each return has at least one reference of a resource
 returns_counted : (c : ℕ) (resources : List Resource) (queue : List Returned) → ((r : Returned) → Contains queue r → KeepsReturn c resources r)
@@ -88,41 +69,12 @@ abbrev Short : Answer → Type 0
 Short a = is_short a.reply ≡ true
 
 short_by : (t : Bool) (a b : Answer) → Short a → Short b → Short (cond t a b)
-short_by true a b h k = h
-short_by false a b h k = k
-
-short_unless : (w : World) (c : Client) (o : Option Refusal) (a : Answer) → Short a → Short (unless_refused w c o a)
-unfolding is_short
-short_unless w c None a h = h
-short_unless w c (Some r) a h = refl
-
-short_await : (w : World) (c : Client) (d : Option ℕ) (over : Bool)
-    → Short (elim d [
-      | Some k ↦ says (reply.Began k) (taking (λ (x : Client). record x { delivered = None }) c w)
-      | None ↦ cond over (says reply.Over (taking (λ x. x) c w)) (says (reply.Refused refusal.NotYet) w)
-    ])
-unfolding is_short
-short_await w c None true = refl
-short_await w c None false = refl
-short_await w c (Some k) over = refl
-
-short_message : (p : Plan) (w : World) (c : Client) (m : Message) → IsPlan p → KeepsAlways w → KeepsPlan p w → KeepsMessages w → Contains w.clients c → Short (message_answer w c m)
-unfolding message_answer upload_answer submit_answer accepted root_answer hierarchy_answer await_answer is_short
-short_message p w c (Upload id block) is a h k q = short_by (in_use c.resources id) (refused w c refusal.InUse) (says reply.Stored (taking (storing id block) c w)) refl refl
-short_message p w c (Submit local frame) is a h k q = short_unless w c (submit_refusal _ c.resources local frame) (accepted w c local frame) refl
-short_message p w c (DidNotProduce n) is a h k q = refl
-short_message p w c Reclaim is a h k q = lt-ltb (length c.queue) GREATEST_NUMBER (few_returns p w c is a h k q)
-short_message p w c (SetRoot local) is a h k q = short_by (c.number == 1) (says reply.Rooted (record (taking (λ x. x) c w) { root = Some (id_of c local) })) (refused w c refusal.NotRoot) refl refl
-short_message p w c (Hierarchy parent child) is a h k q =
-    short_unless w c (hierarchy_refusal w c parent child) (says reply.Joined (record (taking (λ x. x) c w) { relations = relate parent child w.relations })) refl
-short_message p w c Await is a h k q = short_await w c c.delivered w.over
-short_message p w c Close is a h k q = refl
+short_by t a b h k = grind (arith, nat_tests)
 
 short_known : (p : Plan) (w : World) (c : Client) (o : Option Message) → IsPlan p → KeepsAlways w → KeepsPlan p w → KeepsMessages w → Contains w.clients c
     → Short (elim o [ None ↦ says (reply.Refused refusal.NoMessage) w | Some m ↦ cond c.closed (refused w c refusal.AlreadyClosed) (message_answer w c m) ])
-unfolding is_short
-short_known p w c None is a h k q = refl
-short_known p w c (Some m) is a h k q = short_by c.closed (refused w c refusal.AlreadyClosed) (message_answer w c m) refl (short_message p w c m is a h k q)
+unfolding is_short message_answer upload_answer submit_answer accepted root_answer hierarchy_answer await_answer
+short_known p w c o is a h k q = grind (arith, nat_tests, storing, lt-ltb, few_returns)
 
 short_client : (p : Plan) (w : World) (n : ℕ) (o : Option Client) → client_at w n ≡ o → IsPlan p → KeepsAlways w → KeepsPlan p w → KeepsMessages w
     → Short (elim o [ None ↦ says (reply.Refused refusal.NoMessage) w | Some x ↦ known_client_answer p w x ])
@@ -132,9 +84,7 @@ short_client p w n (Some c) e is a h k = short_known p w c (next_message p c) is
 
 short_scene : (p : Plan) (w : World) (scene : Scene) → Short (scene_answer p w scene)
 unfolding scene_answer is_short
-short_scene p w scene =
-    let damage = drawn_damage p.size w.last (accepted_frames w) scene.root (walk_of p.size scene) in
-    short_by (too_much (walk_of p.size scene)) (says reply.TooMuch w) _ refl (short_by (is_some w.last && is_empty_rect damage) (says reply.Unchanged _) (says (reply.Drawn damage) _) refl refl)
+short_scene p w scene = grind (arith, nat_tests)
 
 short_seen : (p : Plan) (w : World) (o : Option Scene) → Short (elim o [ Some scene ↦ scene_answer p w scene | None ↦ says reply.NoRoot w ])
 unfolding is_short

@@ -1,16 +1,13 @@
 -- What a register keeps, as it takes an event.
-use Rattle.std.proofs.Common.{◌≡◌, ℕ, ◌+◌, List, [], ◌∷◌, ◌++◌, length, refl, sym, ap, subst, ◌∙◌, arith, length-append}
+use Rattle.std.proofs.Common.{◌≡◌, ℕ, List, [], ◌∷◌, ◌++◌, length, refl, sym, ap, subst, ◌∙◌, arith}
 use Rattle.std.specs.Prelude.{zip}
-use Rattle.vz_rules.specs.World.{World, Machine, opening}
-use Rattle.vz_rules.specs.declared.entry.Event.{Event}
-use Rattle.vz_rules.specs.declared.entry.Entry.{Entry}
-use Rattle.vz_rules.specs.Step.{step_in, entry_in, world, world_from, NamesClient, Legal, LegalFrom}
+use Rattle.vz_rules.specs.{World.Machine, World.opening, declared.entry.Event.Event, declared.entry.Entry.Entry}
+use Rattle.vz_rules.specs.Step.{entry_in, world, world_from, NamesClient, Legal, LegalFrom}
 use Rattle.vz_rules.proofs.Runs.{world-more, legal-more}
-use Rattle.vz_machine.specs.declared.machine.Step.{Step}
-use Rattle.vz_machine.specs.Stepping.{Answers, Goes}
-use Rattle.vz_turn.specs.declared.brief.Brief.{Brief}
-use Rattle.vz_turn.specs.Briefs.{brief_in}
+use Rattle.vz_machine.specs.{declared.machine.Step.Step, Stepping.Answers, Stepping.Goes}
+use Rattle.vz_turn.specs.{declared.brief.Brief.Brief, Briefs.brief_in}
 use Rattle.vz_turn.specs.Registers.{Registered, entries_of, machine_of, next_entry, registered_on, TellsNext, IsRegistered}
+use Rattle.std.proofs.{lemmas.Bool.Decides.nat_tests, lemmas.Grind.common_steps}
 
 -- the entries of a log are those that got numbers
 entries_zip : (cs : List ℕ) (h : List Entry) → length cs ≡ length h → entries_of (zip cs h) ≡ h
@@ -64,9 +61,6 @@ module _ (m : Machine) (cs : List ℕ) (h : List Entry) (is : IsRegistered m cs 
       unfolding entry_in
       made_by = entry ∙ (λ i. record { event = v; reply = answers.reply i; effects = answers.effects i })
 
-      made_behind : e ≡ entry_in m.plan (world m.plan h) v
-      made_behind = made_by ∙ ap (λ (w : World). entry_in m.plan w v) is.behind
-
       event_is : e.event ≡ v
       event_is = ap (λ (x : Entry). x.event) entry
 
@@ -79,11 +73,7 @@ module _ (m : Machine) (cs : List ℕ) (h : List Entry) (is : IsRegistered m cs 
 
       -- what holds with one more entry
       more_keeps : NamesClient m.plan v → (c : ℕ) → IsRegistered m' (cs ++ c ∷ []) (h ++ e ∷ [])
-      more_keeps named c = subst (λ (x : Machine). IsRegistered x (cs ++ c ∷ []) (h ++ e ∷ [])) (sym goes) record {
-        even = let a = length-append cs (c ∷ []) in let b = length-append h (e ∷ []) in let same = is.even in omega arith;
-        behind = ap (λ (w : World). (step_in m.plan w v).world) is.behind ∙ ap (λ (u : Event). (step_in m.plan (world m.plan h) u).world) (sym event_is) ∙ sym (world-more m.plan h e);
-        legal = legal-more m.plan h e is.legal (subst (NamesClient m.plan) (sym event_is) named) (made_behind ∙ ap (entry_in m.plan (world m.plan h)) (sym event_is));
-      }
+      more_keeps named c = grind (arith, nat_tests, common_steps, world-more m.plan h e, legal-more m.plan h e is.legal (subst (NamesClient m.plan) (sym event_is) named), made_by)
 
       module _ (c : ℕ) (cs1 cs2 : List ℕ) (h1 h2 : List Entry) (callers : cs1 ≡ cs) (with_caller : cs2 ≡ cs1 ++ c ∷ []) (entries : h1 ≡ h) (with_entry : h2 ≡ h1 ++ e ∷ []) where
         all_callers : cs2 ≡ cs ++ c ∷ []
@@ -94,16 +84,10 @@ module _ (m : Machine) (cs : List ℕ) (h : List Entry) (is : IsRegistered m cs 
 
         pub goes_on : record { plan = m'.plan; log = zip cs2 h2 } ≡ registered_on r c v
         unfolding registered_on
-        goes_on = (λ i. record { plan = plan_stays i; log = (all_log ∙ ap (λ (x : Entry). zip cs h ++ (c, x) ∷ []) made_next) i }) ∙ ap (λ (x : Registered). record { plan = x.plan; log = x.log ++ (c, next_entry r v) ∷ [] }) view
-          where
-            all_log : zip cs2 h2 ≡ zip cs h ++ (c, e) ∷ []
-            all_log = (λ i. zip (all_callers i) (all_entries i)) ∙ zip_more cs h c e is.even
+        goes_on = grind (arith, nat_tests, plan_stays, made_next, all_callers, all_entries, zip_more cs h c e is.even)
 
         pub keeps_on : NamesClient r.plan v → IsRegistered m' cs2 h2
         keeps_on named = subst (λ (x : List ℕ × List Entry). IsRegistered m' x.0 x.1) (λ i. (sym all_callers i, sym all_entries i)) (more_keeps (subst (λ (x : Registered). NamesClient x.plan v) (sym view) named) c)
 
         pub told_is : (n : ℕ) (b : Brief) → n ≡ length h2 → b ≡ brief_in e.reply → TellsNext r v (record { place = n; reply = b })
-        told_is n b place reply = λ i. record { place = (place ∙ ap length all_entries ∙ one_more ∙ ap (λ (x : Registered). length x.log + 1) view) i; reply = (reply ∙ ap (λ (x : Entry). brief_in x.reply) made_next) i }
-          where
-            one_more : length (h ++ e ∷ []) ≡ length (zip cs h) + 1
-            one_more = let a = length-append h (e ∷ []) in let b = length_zip cs h is.even in omega arith
+        told_is n b place reply = grind (arith, nat_tests, common_steps, all_entries, made_next, length_zip cs h is.even)

@@ -1,22 +1,15 @@
 -- What becomes of the entries that one caller made.
-use Rattle.std.proofs.Common.{◌≡◌, ℕ, ◌+◌, Bool, true, false, cond, List, [], ◌∷◌, ◌++◌, length, refl, sym, ap, ◌∙◌, arith, ◌==◌, eq-eqb}
+use Rattle.std.proofs.Common.{◌≡◌, ℕ, ◌+◌, Bool, true, cond, List, [], ◌∷◌, ◌++◌, length, refl, sym, ap, ◌∙◌, arith, ◌==◌, eq-eqb}
 use mathlib.Core.List.{IsPrefix}
-use Rattle.vz_loans.specs.Rule.{Log, places, places_from}
-use Rattle.vz_loans.specs.Tokens.{Caller, mine, IsSameCaller, IsClosedBy}
-use Rattle.vz_rules.specs.Plan.{Plan}
-use Rattle.vz_rules.specs.World.{World}
-use Rattle.vz_rules.specs.declared.entry.Event.{Event}
-use Rattle.vz_rules.specs.declared.entry.Entry.{Entry}
-use Rattle.vz_rules.specs.Step.{entry_in}
-use Rattle.vz_turn.specs.declared.brief.Told.{Told}
-use Rattle.vz_turn.specs.Calls.{Makes}
-use Rattle.vz_turn.specs.Own.{own_entries, made_with}
+use Rattle.vz_loans.specs.{Rule.Log, Rule.places, Rule.places_from, Tokens.Caller, Tokens.mine, Tokens.IsSameCaller, Tokens.IsClosedBy}
+use Rattle.vz_rules.specs.{Plan.Plan, World.World, declared.entry.Event.Event, declared.entry.Entry.Entry, Step.entry_in}
+use Rattle.vz_turn.specs.{declared.brief.Told.Told, Calls.Makes, Own.own_entries, Own.made_with}
+use Rattle.std.proofs.lemmas.Bool.Decides.{nat_tests}
 
 -- There are as many as places
 
 count_step : (b : Bool) (k : ℕ) (ps : List ℕ) (e : Entry) (es : List Entry) → length es ≡ length ps → length (cond b (e ∷ es) es) ≡ length (cond b (k ∷ ps) ps)
-count_step true k ps e es same = omega (arith, same)
-count_step false k ps e es same = same
+count_step b k ps e es same = grind (arith, nat_tests)
 
 count_from : (k n : ℕ) (log : Log Entry) → length (own_entries n log) ≡ length (places_from k n log)
 count_from k n [] = refl
@@ -28,16 +21,14 @@ own_count t = count_from 1 t.number t.seen
 -- Entries of others change nothing
 
 none_step : (b : Bool) (k : ℕ) (ps : List ℕ) (e : Entry) (es : List Entry) → cond b (k ∷ ps) ps ≡ [] → (ps ≡ [] → es ≡ []) → cond b (e ∷ es) es ≡ []
-none_step true k ps e es is rest = absurd (cc)
-none_step false k ps e es is rest = rest is
+none_step b k ps e es is rest = grind (arith, nat_tests)
 
 none_of : (k n : ℕ) (more : Log Entry) → places_from k n more ≡ [] → own_entries n more ≡ []
 none_of k n [] is = refl
 none_of k n (x ∷ more) is = none_step (x.0 == n) k (places_from (k + 1) n more) x.1 (own_entries n more) is (none_of (k + 1) n more)
 
 one_less : (b : Bool) (k : ℕ) (ps qs : List ℕ) → cond b (k ∷ ps) ps ≡ cond b (k ∷ qs) qs → ps ≡ qs
-one_less true k ps qs is = cc
-one_less false k ps qs is = is
+one_less b k ps qs is = grind (arith, nat_tests)
 
 stay_from : (k n : ℕ) (log more : Log Entry) → places_from k n (log ++ more) ≡ places_from k n log → own_entries n (log ++ more) ≡ own_entries n log
 stay_from k n [] more is = none_of k n more is
@@ -59,16 +50,14 @@ self_same : (n : ℕ) → (n == n) ≡ true
 self_same n = eq-eqb n n refl
 
 added_step : (b : Bool) (x e : Entry) (l m : List Entry) → l ≡ m ++ e ∷ [] → cond b (x ∷ l) l ≡ cond b (x ∷ m) m ++ e ∷ []
-added_step true x e l m is = ap (λ (k : List Entry). x ∷ k) is
-added_step false x e l m is = is
+added_step b x e l m is = grind (arith, nat_tests)
 
 own_added : (n : ℕ) (log : Log Entry) (e : Entry) → own_entries n (log ++ (n, e) ∷ []) ≡ own_entries n log ++ e ∷ []
 own_added n [] e = ap (λ (b : Bool). cond b (e ∷ []) []) (self_same n)
 own_added n (x ∷ log) e = added_step (x.0 == n) x.1 e (own_entries n (log ++ (n, e) ∷ [])) (own_entries n log) (own_added n log e)
 
 place_step : (b : Bool) (k a c : ℕ) (l m : List ℕ) → a ≡ c → l ≡ m ++ a ∷ [] → cond b (k ∷ l) l ≡ cond b (k ∷ m) m ++ c ∷ []
-place_step true k a c l m same is = ap (λ (x : List ℕ). k ∷ x) is ∙ ap (λ (x : ℕ). k ∷ (m ++ x ∷ [])) same
-place_step false k a c l m same is = is ∙ ap (λ (x : ℕ). m ++ x ∷ []) same
+place_step b k a c l m same is = grind (arith, nat_tests)
 
 place_added : (k n : ℕ) (log : Log Entry) (e : Entry) → places_from k n (log ++ (n, e) ∷ []) ≡ places_from k n log ++ (k + length log) ∷ []
 place_added k n [] e = ap (λ (b : Bool). cond b (k ∷ []) []) (self_same n) ∙ ap (λ (x : ℕ). x ∷ []) (omega arith)
@@ -96,11 +85,7 @@ fronts_same (x ∷ xs) (y ∷ ys) a b is = λ i. first_same (xs ++ a ∷ []) (ys
 
 -- a call adds its entry to those of its caller
 pub own_made : (old new : Caller Plan Entry) (e : Event) (told : Told) → IsSameCaller old new → (m : Makes old new e told) → made_with new ≡ made_with old ++ m.made ∷ []
-own_made old new e told same m =
-    let number : made_with new ≡ own_entries old.number (m.before ++ (old.number, m.made) ∷ []) = (λ i. own_entries (same.1 i) (m.seen i)) in
-    let all : places old.number (m.before ++ (old.number, m.made) ∷ []) ≡ mine old ++ told.place ∷ [] = (λ i. places (sym same.1 i) (sym m.seen i)) ∙ m.mine in
-    let front : places old.number m.before ≡ mine old = fronts_same (places old.number m.before) (mine old) (1 + length m.before) told.place (sym (place_added 1 old.number m.before m.made) ∙ all) in
-    number ∙ own_added old.number m.before m.made ∙ ap (λ (l : List Entry). l ++ m.made ∷ []) (own_stay old.number old.seen m.before m.later front)
+own_made old new e told same m = grind (arith, nat_tests, fronts_same, place_added, own_added, own_stay)
 
 event_is : (p : Plan) (w : World) (v : Event) (e : Entry) → e ≡ entry_in p w v → e.event ≡ v
 unfolding entry_in

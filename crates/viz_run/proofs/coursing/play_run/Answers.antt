@@ -1,15 +1,11 @@
-use Rattle.std.proofs.Common.{subst}
 use Rattle.vz_outside.proofs.Calls.{ran_one, ran_then_ran}
 use Rattle.vz_outside.proofs.Behaving.{on_err, behaves_at, behaves_as, then_behaves}
-use Rattle.vz_player.proofs.Outs.{made_stands, none_made, log_stands, log_cut, stands_whole}
-use Rattle.vz_outside.specs.Shelved.{Appends, AppendsFront}
-use Rattle.vz_rules.specs.Log.{log_text}
-use Rattle.vz_rules.specs.declared.entry.Rest.{Rest}
-use Rattle.vz_threads.specs.Courses.{frames_of}
-use Rattle.viz_run.specs.Ends.{log_of}
+use Rattle.vz_player.proofs.Outs.{none_made}
 use Rattle.vz_rules.specs.Command.{buffer_count}
 use Rattle.viz_run.proofs.Run_done.{none_legal}
-use Rattle.viz_run.proofs.Shown_whole.{shown_stands, shown_cut}
+use Rattle.vz_threads.specs.Courses.{frames_of}
+use Rattle.viz_run.specs.Ends.{log_of}
+use Rattle.viz_run.proofs.Shown_whole.{frames_begun, frames_whole, log_begun, both_whole}
 use Rattle.viz_run.proofs.coursing.play_run.Goals as goal
 
 pub returns-in_err-outputs-clause-legal : goal.returns-in_err-outputs-clause-legal
@@ -17,46 +13,22 @@ returns-in_err-outputs-clause-legal g c = none_legal (g.M.Machine.state c.args.m
 
 pub returns-in_err-outputs-clause-begun : goal.returns-in_err-outputs-clause-begun
 returns-in_err-outputs-clause-begun g c =
-    let w = c.args.words.now in
     let p = (g.M.Machine.state c.args.machine).plan in
     let h = c.args.history.now in
     let e = c.in_err-outputs.ensures in
-    on_err c.from_residual.result _ (none_made w.frames.now w.log.now (frames_of p h (buffer_count w.buffers)) (log_of p h)
-    (g.F.Shelf.shelved c.args.shelf.now) (g.F.Shelf.shelved c.create_outputs.new.shelf) e.no_frames e.no_log e.others).begun
+    on_err c.from_residual.result _
+    (none_made _ _ (frames_of p h (buffer_count c.args.words.now.buffers)) (log_of p h) _ _ e.no_frames e.no_log e.others)
 
 pub show_run-requires-clause-open : goal.show_run-requires-clause-open
 show_run-requires-clause-open g c = λ _ _. c.in_ok-outputs.ensures.frames.writing
 
 pub returns-in_err-rest-clause-begun : goal.returns-in_err-rest-clause-begun
 returns-in_err-rest-clause-begun g c =
-    let w = c.args.words.now in
-    let p = (g.M.Machine.state c.args.machine).plan in
-    let h = c.show_run.new.history in
-    let outputs = c.in_ok-outputs.outputs in
     let made = c.in_ok-outputs.ensures in
     let shown = c.in_err-rest.ensures in
-    let a = g.F.Shelf.shelved c.args.shelf.now in
-    let b = g.F.Shelf.shelved c.create_outputs.new.shelf in
-    let d = g.F.Shelf.shelved c.show_run.new.shelf in
-    let before = made_stands w.frames.now w.log.now outputs a b made.frames made.log made.others made.behaves in
     on_err c.from_residual-in_err-rest.result _
-    (shown_cut w.frames.now w.log.now c.requires.apart outputs a b d (frames_of p h (buffer_count w.buffers)) before shown.others
-    (log_of p h) shown.begun shown.behaves.call).begun
-
-pub returns-in_err-rest-clause-others : goal.returns-in_err-rest-clause-others
-returns-in_err-rest-clause-others g c =
-    let w = c.args.words.now in
-    let p = (g.M.Machine.state c.args.machine).plan in
-    let h = c.show_run.new.history in
-    let outputs = c.in_ok-outputs.outputs in
-    let made = c.in_ok-outputs.ensures in
-    let shown = c.in_err-rest.ensures in
-    let a = g.F.Shelf.shelved c.args.shelf.now in
-    let b = g.F.Shelf.shelved c.create_outputs.new.shelf in
-    let d = g.F.Shelf.shelved c.show_run.new.shelf in
-    let before = made_stands w.frames.now w.log.now outputs a b made.frames made.log made.others made.behaves in
-    (shown_cut w.frames.now w.log.now c.requires.apart outputs a b d (frames_of p h (buffer_count w.buffers)) before shown.others
-    (log_of p h) shown.begun shown.behaves.call).others
+    (frames_begun _ _ c.requires.apart c.in_ok-outputs.outputs _ _ _ (g.M.Machine.state c.args.machine).plan c.show_run.new.history (buffer_count c.args.words.now.buffers)
+    made.frames made.log made.others made.behaves shown.others shown.begun shown.behaves.call)
 
 pub returns-in_err-rest-clause-behaves : goal.returns-in_err-rest-clause-behaves
 returns-in_err-rest-clause-behaves g c =
@@ -67,114 +39,41 @@ returns-in_err-rest-clause-behaves g c =
 
 pub write_log-requires : goal.write_log-requires
 write_log-requires g c =
-    let w = c.args.words.now in
-    let p = (g.M.Machine.state c.args.machine).plan in
-    let h = c.show_run.new.history in
-    let outputs = c.in_ok-outputs.outputs in
     let made = c.in_ok-outputs.ensures in
     let shown = c.in_ok-rest.ensures in
-    let a = g.F.Shelf.shelved c.args.shelf.now in
-    let b = g.F.Shelf.shelved c.create_outputs.new.shelf in
-    let d = g.F.Shelf.shelved c.show_run.new.shelf in
-    let before = made_stands w.frames.now w.log.now outputs a b made.frames made.log made.others made.behaves in
     record {
-      «open» = (shown_stands w.frames.now w.log.now c.requires.apart outputs a b d (frames_of p h (buffer_count w.buffers)) before shown.others
-          shown.frames (ran_one c.in_ok-rest.rest b d shown.behaves)).log_is.writing;
+      «open» = (frames_whole _ _ c.requires.apart c.in_ok-outputs.outputs _ _ _ (g.M.Machine.state c.args.machine).plan c.show_run.new.history (buffer_count c.args.words.now.buffers)
+          made.frames made.log made.others made.behaves shown.others shown.frames (ran_one c.in_ok-rest.rest _ _ shown.behaves)).log_is.writing;
     }
 
 pub returns-in_err-write_log-clause-begun : goal.returns-in_err-write_log-clause-begun
 returns-in_err-write_log-clause-begun g c =
-    let w = c.args.words.now in
-    let p = (g.M.Machine.state c.args.machine).plan in
-    let h = c.show_run.new.history in
-    let outputs = c.in_ok-outputs.outputs in
     let made = c.in_ok-outputs.ensures in
     let shown = c.in_ok-rest.ensures in
     let told = c.in_err-write_log.ensures in
-    let a = g.F.Shelf.shelved c.args.shelf.now in
-    let b = g.F.Shelf.shelved c.create_outputs.new.shelf in
-    let d = g.F.Shelf.shelved c.show_run.new.shelf in
-    let e = g.F.Shelf.shelved c.write_log.new.shelf in
-    let before = made_stands w.frames.now w.log.now outputs a b made.frames made.log made.others made.behaves in
-    let then = shown_stands w.frames.now w.log.now c.requires.apart outputs a b d (frames_of p h (buffer_count w.buffers)) before
-    shown.others shown.frames (ran_one c.in_ok-rest.rest b d shown.behaves) in
     on_err c.from_residual-in_err-write_log.result _
-    (log_cut w.frames.now w.log.now c.requires.apart outputs a d e (frames_of p h (buffer_count w.buffers)) (log_of p h) then
-    (subst (λ (r : Rest). AppendsFront (log_text h r) (d.name outputs.log) d e) shown.rest told.begun) told.others told.behaves.call).begun
-
-pub returns-in_err-write_log-clause-others : goal.returns-in_err-write_log-clause-others
-returns-in_err-write_log-clause-others g c =
-    let w = c.args.words.now in
-    let p = (g.M.Machine.state c.args.machine).plan in
-    let h = c.show_run.new.history in
-    let outputs = c.in_ok-outputs.outputs in
-    let made = c.in_ok-outputs.ensures in
-    let shown = c.in_ok-rest.ensures in
-    let told = c.in_err-write_log.ensures in
-    let a = g.F.Shelf.shelved c.args.shelf.now in
-    let b = g.F.Shelf.shelved c.create_outputs.new.shelf in
-    let d = g.F.Shelf.shelved c.show_run.new.shelf in
-    let e = g.F.Shelf.shelved c.write_log.new.shelf in
-    let before = made_stands w.frames.now w.log.now outputs a b made.frames made.log made.others made.behaves in
-    let then = shown_stands w.frames.now w.log.now c.requires.apart outputs a b d (frames_of p h (buffer_count w.buffers)) before
-    shown.others shown.frames (ran_one c.in_ok-rest.rest b d shown.behaves) in
-    (log_cut w.frames.now w.log.now c.requires.apart outputs a d e (frames_of p h (buffer_count w.buffers)) (log_of p h) then
-    (subst (λ (r : Rest). AppendsFront (log_text h r) (d.name outputs.log) d e) shown.rest told.begun) told.others told.behaves.call).others
-
-pub returns-in_err-write_log-clause-behaves : goal.returns-in_err-write_log-clause-behaves
-returns-in_err-write_log-clause-behaves g c =
-    let made = c.in_ok-outputs.ensures in
-    let shown = c.in_ok-rest.ensures in
-    behaves_at _ _ _ _ c.from_residual-in_err-write_log.ensures.1
-    (then_behaves _ _ _ _ (ran_then_ran _ _ _ (ran_one c.in_ok-outputs.outputs _ _ made.behaves)
-    (ran_one c.in_ok-rest.rest _ _ shown.behaves))
-    c.in_err-write_log.ensures.behaves (λ z. z))
+    (log_begun _ _ c.requires.apart c.in_ok-outputs.outputs _ _ _ (g.M.Machine.state c.args.machine).plan c.show_run.new.history (buffer_count c.args.words.now.buffers)
+    made.frames made.log made.others made.behaves shown.others shown.frames (ran_one c.in_ok-rest.rest _ _ shown.behaves)
+    c.in_ok-rest.rest shown.rest _ told.others told.begun told.behaves.call)
 
 pub returns-clause-whole : goal.returns-clause-whole
 returns-clause-whole g c =
-    let w = c.args.words.now in
-    let p = (g.M.Machine.state c.args.machine).plan in
-    let h = c.show_run.new.history in
-    let outputs = c.in_ok-outputs.outputs in
     let made = c.in_ok-outputs.ensures in
     let shown = c.in_ok-rest.ensures in
     let told = c.in_ok-write_log.ensures in
-    let a = g.F.Shelf.shelved c.args.shelf.now in
-    let b = g.F.Shelf.shelved c.create_outputs.new.shelf in
-    let d = g.F.Shelf.shelved c.show_run.new.shelf in
-    let e = g.F.Shelf.shelved c.write_log.new.shelf in
-    let before = made_stands w.frames.now w.log.now outputs a b made.frames made.log made.others made.behaves in
-    let then = shown_stands w.frames.now w.log.now c.requires.apart outputs a b d (frames_of p h (buffer_count w.buffers)) before
-    shown.others shown.frames (ran_one c.in_ok-rest.rest b d shown.behaves) in
-    (stands_whole w.frames.now w.log.now outputs (frames_of p h (buffer_count w.buffers)) a e (log_of p h)
-    (log_stands w.frames.now w.log.now c.requires.apart outputs a d e (frames_of p h (buffer_count w.buffers)) (log_of p h) then
-    (subst (λ (r : Rest). Appends (log_text h r) (d.name outputs.log) d e) shown.rest told.appended) told.others
-    (ran_one tt d e told.behaves))).whole
+    both_whole _ _ c.requires.apart c.in_ok-outputs.outputs _ _ _ (g.M.Machine.state c.args.machine).plan c.show_run.new.history (buffer_count c.args.words.now.buffers)
+    made.frames made.log made.others made.behaves shown.others shown.frames (ran_one c.in_ok-rest.rest _ _ shown.behaves)
+    c.in_ok-rest.rest shown.rest _ told.others told.appended (ran_one tt _ _ told.behaves)
 
-pub returns-clause-others : goal.returns-clause-others
-returns-clause-others g c =
-    let w = c.args.words.now in
-    let p = (g.M.Machine.state c.args.machine).plan in
-    let h = c.show_run.new.history in
-    let outputs = c.in_ok-outputs.outputs in
-    let made = c.in_ok-outputs.ensures in
-    let shown = c.in_ok-rest.ensures in
-    let told = c.in_ok-write_log.ensures in
-    let a = g.F.Shelf.shelved c.args.shelf.now in
-    let b = g.F.Shelf.shelved c.create_outputs.new.shelf in
-    let d = g.F.Shelf.shelved c.show_run.new.shelf in
-    let e = g.F.Shelf.shelved c.write_log.new.shelf in
-    let before = made_stands w.frames.now w.log.now outputs a b made.frames made.log made.others made.behaves in
-    let then = shown_stands w.frames.now w.log.now c.requires.apart outputs a b d (frames_of p h (buffer_count w.buffers)) before
-    shown.others shown.frames (ran_one c.in_ok-rest.rest b d shown.behaves) in
-    (log_stands w.frames.now w.log.now c.requires.apart outputs a d e (frames_of p h (buffer_count w.buffers)) (log_of p h) then
-    (subst (λ (r : Rest). Appends (log_text h r) (d.name outputs.log) d e) shown.rest told.appended) told.others
-    (ran_one tt d e told.behaves)).others
+pub returns-in_err-write_log-clause-behaves : goal.returns-in_err-write_log-clause-behaves
+returns-in_err-write_log-clause-behaves g c =
+    behaves_at _ _ _ _ c.from_residual-in_err-write_log.ensures.1
+    (then_behaves _ _ _ _ (ran_then_ran _ _ _ (ran_one c.in_ok-outputs.outputs _ _ c.in_ok-outputs.ensures.behaves)
+    (ran_one c.in_ok-rest.rest _ _ c.in_ok-rest.ensures.behaves))
+    c.in_err-write_log.ensures.behaves (λ z. z))
 
 pub returns-clause-behaves : goal.returns-clause-behaves
 returns-clause-behaves g c =
-    let made = c.in_ok-outputs.ensures in
-    let shown = c.in_ok-rest.ensures in
-    then_behaves _ _ _ _ (ran_then_ran _ _ _ (ran_one c.in_ok-outputs.outputs _ _ made.behaves)
-    (ran_one c.in_ok-rest.rest _ _ shown.behaves))
+    then_behaves _ _ _ _ (ran_then_ran _ _ _ (ran_one c.in_ok-outputs.outputs _ _ c.in_ok-outputs.ensures.behaves)
+    (ran_one c.in_ok-rest.rest _ _ c.in_ok-rest.ensures.behaves))
     c.in_ok-write_log.ensures.behaves (λ z. z)

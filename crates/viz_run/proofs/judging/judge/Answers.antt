@@ -86,7 +86,6 @@ returns-in_err-plan-clause-input g c =
     let read = ran_one c.in_ok-files.files s _ c.in_ok-files.ensures.behaves in
     let ran = ran_then_ran s _ t read (ran_one c.in_ok-log.log _ t c.in_ok-log.ensures.behaves) in
     let same = files_then_files s _ t read.call c.read_files.ensures.files c.read_file.ensures.files in
-    let opened = ran_one c.in_ok-slot.slot t u c.in_ok-slot.ensures.behaves in
     let refused = ap (λ fs. refused_of (contents fs) log) (sym c.deref.ensures.value)
     ∙ ap (λ (bytes : List ℕ). refused_of (contents c.deref.result.now) bytes) (sym c.deref-2.ensures.value) in
     input_of c.in_err-plan.field-0.0 c.from_residual-in_err-plan.result _ c.from_residual-in_err-plan.ensures.1
@@ -102,7 +101,6 @@ returns-in_err-plan-clause-input g c =
 
 pub returns-in_err-check-clause-behaves : goal.returns-in_err-check-clause-behaves
 returns-in_err-check-clause-behaves g c =
-    let w = c.args.words.now in
     let s = g.F.Shelf.shelved c.args.shelf.now in
     let t = g.F.Shelf.shelved c.read_file.new.shelf in
     let u = g.F.Shelf.shelved c.open.new.self in
@@ -110,7 +108,6 @@ returns-in_err-check-clause-behaves g c =
     let log = c.in_ok-log.log.items in
     let read = ran_one c.in_ok-files.files s _ c.in_ok-files.ensures.behaves in
     let ran = ran_then_ran s _ t read (ran_one c.in_ok-log.log _ t c.in_ok-log.ensures.behaves) in
-    let same = files_then_files s _ t read.call c.read_files.ensures.files c.read_file.ensures.files in
     let opened = ran_one c.in_ok-slot.slot t u c.in_ok-slot.ensures.behaves in
     stops_at c.in_err-check.field-0.0 c.from_residual-in_err-check.result s u _ c.from_residual-in_err-check.ensures.1
     (ran_then_ran s t u ran opened) c.in_err-check.ensures.behaves (λ none. absurd none)
@@ -126,7 +123,6 @@ returns-clause-verdict g c =
     let read = ran_one c.in_ok-files.files s _ c.in_ok-files.ensures.behaves in
     let ran = ran_then_ran s _ t read (ran_one c.in_ok-log.log _ t c.in_ok-log.ensures.behaves) in
     let same = files_then_files s _ t read.call c.read_files.ensures.files c.read_file.ensures.files in
-    let opened = ran_one c.in_ok-slot.slot t u c.in_ok-slot.ensures.behaves in
     let judged = c.in_ok-check.ensures.verdict in
     let refused = ap (λ fs. refused_of (contents fs) log) (sym c.deref.ensures.value)
     ∙ ap (λ (bytes : List ℕ). refused_of (contents c.deref.result.now) bytes) (sym c.deref-2.ensures.value) in

@@ -1,6 +1,5 @@
 use Rattle.vz_callers.specs.Callers.{events_of}
-use Rattle.vz_callers.proofs.Called.{stays_then}
-use Rattle.vz_callers.proofs.Rounds.{more_rounds}
+use Rattle.vz_callers.proofs.{Called.stays_then, Rounds.more_rounds}
 use Rattle.vz_callers.proofs.calls.make_rounds.Goals as goal
 
 pub loop-before-preserved : goal.loop-before-preserved

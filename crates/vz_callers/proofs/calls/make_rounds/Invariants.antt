@@ -1,6 +1,5 @@
 use Rattle.std.proofs.Common.{◌≡◌, ◌++◌}
-use Rattle.vz_callers.specs.Callers.{events_of, Stays}
-use Rattle.vz_callers.specs.Turns.{rounds}
+use Rattle.vz_callers.specs.{Callers.events_of, Callers.Stays, Turns.rounds}
 use Rattle.vz_callers.proofs.calls.make_rounds.Given as goal
 
 abbrev pub invariant-loop-before : goal.invariant-loop-before

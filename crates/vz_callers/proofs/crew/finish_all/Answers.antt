@@ -1,8 +1,7 @@
 use Rattle.std.proofs.Common.{◌∙◌, sym, arith}
 use Rattle.vz_callers.specs.Crews.{IsAtWork}
-use Rattle.vz_callers.proofs.Crewing.{numbers_move, all_popped, back_more, has_file}
+use Rattle.vz_callers.proofs.{Crewing.numbers_move, Crewing.all_popped, Crewing.back_more, Crewing.has_file, crew.finish_all.Goals.In-Some}
 use Rattle.vz_callers.proofs.crew.finish_all.Goals as goal
-use Rattle.vz_callers.proofs.crew.finish_all.Goals.{In-Some}
 
 pub count_of-count-requires-after_bounds : goal.count_of-count-requires-after_bounds
 count_of-count-requires-after_bounds g c κs within =

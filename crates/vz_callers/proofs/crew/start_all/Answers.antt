@@ -1,10 +1,8 @@
 use Rattle.std.proofs.Common.{rules, ◌∙◌, arith}
-use Rattle.vz_callers.specs.Callers.{HasCalled}
-use Rattle.vz_callers.specs.Crews.{IsAtWork}
+use Rattle.vz_callers.specs.{Callers.HasCalled, Crews.IsAtWork}
 use Rattle.vz_callers.proofs.Crewing.{numbers_move, none_at_work, all_popped, all_pushed, all_none, has_file}
 use Rattle.vz_callers.proofs.crew.start_all.Goals as goal
-use Rattle.vz_callers.proofs.crew.start_all.Goals.{In-Some}
-use Rattle.vz_callers.proofs.crew.start_all.Given.{Over}
+use Rattle.vz_callers.proofs.{crew.start_all.Goals.In-Some, crew.start_all.Given.Over}
 
 member : (g : Over) (c : In-Some g) → HasCalled c.args.hub.now.id c.requires.crew.0 c.in-Some.pass 0
 member g c =

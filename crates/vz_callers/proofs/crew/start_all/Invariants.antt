@@ -1,8 +1,7 @@
 use Rattle.std.specs.Prelude.{All}
 use Rattle.std.proofs.Common.{◌≡◌, ◌+◌, ◌≤◌, ◌++◌, length, vec_len, vec_capacity}
 use Rattle.vz_rules.specs.Plan.{Plan}
-use Rattle.vz_callers.specs.Callers.{HasCalled}
-use Rattle.vz_callers.specs.Crews.{numbers_of, numbers_at_work, IsAtWork, IsCrew}
+use Rattle.vz_callers.specs.{Callers.HasCalled, Crews.numbers_of, Crews.numbers_at_work, Crews.IsAtWork, Crews.IsCrew}
 use Rattle.vz_callers.proofs.crew.start_all.Given as goal
 
 abbrev pub invariant-loop-pass : goal.invariant-loop-pass

@@ -1,8 +1,7 @@
 use Rattle.std.proofs.Common.{false, length, ltb, ap, sym, subst, ◌≡◌, ◌∙◌, refl}
 use lib.Lanes.{zip2, Each1}
 use Rattle.vz_kernel.specs.Lanes.{AreBytes}
-use Rattle.vz_kernel.proofs.Vectors.{bytes_fit}
-use Rattle.vz_kernel.proofs.Tested.{none_pass, least_opaque, opaque}
+use Rattle.vz_kernel.proofs.{Vectors.bytes_fit, Tested.none_pass, Tested.least_opaque, Tested.opaque}
 use Rattle.vz_kernel.proofs.lanes.is_opaque.Goals as goal
 
 pub returns : goal.returns

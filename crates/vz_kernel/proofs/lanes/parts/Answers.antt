@@ -1,5 +1,4 @@
-use Rattle.std.proofs.Common.{rules, sym, subst}
-use Rattle.std.proofs.lemmas.Simd.{Each1-weaker}
+use Rattle.std.proofs.{Common.rules, Common.sym, Common.subst, lemmas.Simd.Each1-weaker}
 use Rattle.vz_kernel.specs.Lanes.{AreBytes}
 use Rattle.vz_kernel.proofs.Vectors.{parts_is, parts_small, bytes_parts}
 use Rattle.vz_kernel.proofs.lanes.parts.Goals as goal

@@ -1,6 +1,5 @@
 use Rattle.std.proofs.Common.{rules, ◌≡◌, ◌*◌, ◌∙◌, ap, length, map, sym}
-use Rattle.std.proofs.lemmas.List.{length-map}
-use Rattle.std.proofs.lemmas.Simd.{Each1-weaker}
+use Rattle.std.proofs.{lemmas.List.length-map, lemmas.Simd.Each1-weaker}
 use Rattle.vz_kernel.proofs.ByOne.{highs, highs_small, sums, sums_are, bytes_sums}
 use Rattle.vz_kernel.proofs.lanes.parts_plus.Goals as goal
 

@@ -2,8 +2,7 @@ use Rattle.std.proofs.Common.{◌≡◌, ◌-◌, ◌%◌, ◌+◌, map, ap, sub
 use lib.Lanes.{zip2}
 use Rattle.vz_pixels.specs.Colour.{mul}
 use Rattle.vz_kernel.specs.Lanes.{odds, woven, doubled, AreBytes}
-use Rattle.vz_kernel.proofs.Vectors.{bytes_fit, rest_of_alphas}
-use Rattle.vz_kernel.proofs.Mixed.{over_lanes, over_is, over_good}
+use Rattle.vz_kernel.proofs.{Vectors.bytes_fit, Vectors.rest_of_alphas, Mixed.over_lanes, Mixed.over_is, Mixed.over_good}
 use Rattle.vz_kernel.proofs.mixes.over.Goals as goal
 
 pub returns : goal.returns

@@ -1,6 +1,5 @@
 use Rattle.std.proofs.Common.{◌≡◌, ◌*◌}
-use Rattle.vz_kernel.specs.Lanes.{AreFactors}
-use Rattle.vz_kernel.specs.Rows.{changed_upto}
+use Rattle.vz_kernel.specs.{Lanes.AreFactors, Rows.changed_upto}
 use Rattle.vz_kernel.proofs.walks.change_groups.Given as goal
 
 abbrev pub invariant-loop-k : goal.invariant-loop-k

@@ -1,6 +1,5 @@
 use Rattle.std.proofs.Common.{◌+◌, length, ap, ◌∙◌, arith}
-use Rattle.vz_machine.proofs.Spans.{place_fits, row_length}
-use Rattle.vz_machine.proofs.Rows.{from_is, row_fits, row_put}
+use Rattle.vz_machine.proofs.{Spans.place_fits, Spans.row_length, Rows.from_is, Rows.row_fits, Rows.row_put}
 use Rattle.vz_machine.proofs.pixels.paint_row.Goals as goal
 
 pub span-row-requires : goal.span-row-requires

@@ -1,6 +1,5 @@
-use Rattle.std.proofs.Common.{rules, ◌∙◌, string_bytes}
+use Rattle.std.proofs.{Common.rules, Common.◌∙◌, Common.string_bytes, lemmas.Iterator.Search.position_from_yields_List}
 use Rattle.std.proofs.lemmas.Iterator.{YieldsList-from_slice}
-use Rattle.std.proofs.lemmas.Iterator.Search.{position_from_yields_List}
 use Rattle.std.specs.Str.{bytes_eq}
 use Rattle.vz_outside.proofs.Places.{place_found}
 use Rattle.vz_outside.proofs.memory.first_named.Goals as goal

@@ -1,5 +1,4 @@
-use Rattle.std.proofs.Common.{length, take, drop, ◌-◌}
-use Rattle.std.proofs.lemmas.List.{take_rest}
+use Rattle.std.proofs.{Common.length, Common.take, Common.drop, Common.◌-◌, lemmas.List.take_rest}
 use Rattle.vz_outside.proofs.Prints.{printed_more}
 use Rattle.vz_outside.proofs.transfer.print.Goals as goal
 

@@ -1,12 +1,10 @@
 use Rattle.std.proofs.Common.{◌≡◌, ◌<◌, ◌-◌, ◌∷◌, List, length, subst, sym, ap, ◌∙◌, arith}
 use Rattle.vz_ids.specs.declared.SurfaceId.{SurfaceId}
-use Rattle.vz_frame.specs.declared.frame.CompositorFrame.{CompositorFrame}
-use Rattle.vz_frame.specs.declared.frame.RenderPass.{RenderPass}
+use Rattle.vz_frame.specs.{declared.frame.CompositorFrame.CompositorFrame, declared.frame.RenderPass.RenderPass}
 use Rattle.vz_rules.specs.World.{FrameData}
 use Rattle.vz_scene.specs.Walking.{Cursor, cursor_walked}
 use Rattle.vz_placement.specs.Limits.{FitsFile}
-use Rattle.vz_scene.proofs.Stacking.{enter_zero, enter_none, enter_is}
-use Rattle.vz_scene.proofs.Cursors.{enter_bounded}
+use Rattle.vz_scene.proofs.{Stacking.enter_zero, Stacking.enter_none, Stacking.enter_is, Cursors.enter_bounded}
 use Rattle.vz_scene.proofs.cursor.enter.Goals as goal
 
 pub returns-then-levels-eq0 : goal.returns-then-levels-eq0

@@ -1,10 +1,8 @@
 use Rattle.std.proofs.Common.{◌-◌, subst, sym, ap, ◌∙◌, arith}
 use Rattle.vz_frame.specs.Frame.{root_damage}
-use Rattle.vz_rules.specs.World.{FrameData}
-use Rattle.vz_rules.specs.Damage.{is_between}
-use Rattle.vz_placement.proofs.Sides.{nothing_in_reach}
+use Rattle.vz_rules.specs.{World.FrameData, Damage.is_between}
+use Rattle.vz_placement.proofs.{Sides.nothing_in_reach, Fitting.damage_in_reach}
 use Rattle.vz_placement.specs.Limits.{IsInReach}
-use Rattle.vz_placement.proofs.Fitting.{damage_in_reach}
 use Rattle.vz_scene.proofs.Bounding.{join_in_reach, damages_none, damages_step}
 use Rattle.vz_scene.proofs.damage.damage_since.Goals as goal
 

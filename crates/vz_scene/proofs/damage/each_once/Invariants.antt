@@ -1,11 +1,8 @@
 use Rattle.std.proofs.Common.{◌≡◌, [], drop}
-use Rattle.std.specs.List.{list_any}
-use Rattle.std.specs.BTreeSet.{contains}
-use Rattle.vz_ids.specs.declared.SurfaceId.{SurfaceId}
-use Rattle.vz_ids.specs.declared.SurfaceRange.{SurfaceRange}
+use Rattle.std.specs.{List.list_any, BTreeSet.contains}
+use Rattle.vz_ids.specs.{declared.SurfaceId.SurfaceId, declared.SurfaceRange.SurfaceRange}
 use Rattle.std.proofs.Common.{Option}
-use Rattle.vz_rules.specs.Closure.{adding}
-use Rattle.vz_rules.specs.Damage.{of_same_range}
+use Rattle.vz_rules.specs.{Closure.adding, Damage.of_same_range}
 use Rattle.vz_scene.specs.Order.{by_range}
 use Rattle.vz_scene.proofs.damage.each_once.Given as goal
 

@@ -1,8 +1,6 @@
 use Rattle.std.proofs.Common.{◌≡◌, take}
-use Rattle.std.specs.List.{list_any}
-use Rattle.std.specs.BTreeSet.{contains}
-use Rattle.vz_rules.specs.World.{FrameData}
-use Rattle.vz_rules.specs.Walk.{goes_into}
+use Rattle.std.specs.{List.list_any, BTreeSet.contains}
+use Rattle.vz_rules.specs.{World.FrameData, Walk.goes_into}
 use Rattle.vz_scene.specs.Order.{by_sub}
 use Rattle.vz_scene.proofs.damage.entered_subs.Given as goal
 

@@ -1,7 +1,6 @@
 use Rattle.std.proofs.Common.{◌∙◌, ap, sym}
 use Rattle.vz_threads.specs.Outlets.{Fixed}
-use Rattle.vz_threads.proofs.Renaming.{ready_named, run_unnamed, now_at}
-use Rattle.vz_threads.proofs.Through.{fixed_stays}
+use Rattle.vz_threads.proofs.{Renaming.ready_named, Renaming.run_unnamed, Renaming.now_at, Through.fixed_stays}
 use Rattle.vz_threads.proofs.chosen.run_written.Goals as goal
 
 pub run_opened-machine-requires-clause-opened : goal.run_opened-machine-requires-clause-opened

@@ -1,8 +1,7 @@
 use Rattle.std.proofs.Common.{◌∙◌, arith}
 use Rattle.vz_threads.specs.Crews.{IsInCrew}
-use Rattle.vz_threads.proofs.Crewing.{in_crew_may, in_files, start_one, start_goes}
+use Rattle.vz_threads.proofs.{Crewing.in_crew_may, Crewing.in_files, Crewing.start_one, Crewing.start_goes, crew.start_all.Goals.In-Some}
 use Rattle.vz_threads.proofs.crew.start_all.Goals as goal
-use Rattle.vz_threads.proofs.crew.start_all.Goals.{In-Some}
 use Rattle.vz_threads.proofs.crew.start_all.Given.{Over}
 
 member : (g : Over) (c : In-Some g) → IsInCrew c.args.desk.now.id c.args.messages.now c.in-Some.end

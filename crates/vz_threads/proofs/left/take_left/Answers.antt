@@ -2,8 +2,7 @@ use Rattle.std.proofs.Common.{◌≡◌, ◌<◌, sym, subst, arith, length, set
 use Rattle.vz_threads.specs.Crews.{IsInCrew, CrewWorksOn, HasTakenAll}
 use Rattle.vz_threads.proofs.Crewing.{crew_on, crew_at, crew_goes, in_crew_may, in_files, written_back, took_all, holds_more}
 use Rattle.vz_threads.proofs.left.take_left.Goals as goal
-use Rattle.vz_threads.proofs.left.take_left.Goals.{After-end-item}
-use Rattle.vz_threads.proofs.left.take_left.Given.{Over}
+use Rattle.vz_threads.proofs.{left.take_left.Goals.After-end-item, left.take_left.Given.Over}
 
 inside : (g : Over) (c : After-end-item g) → c.loop-end.end-index < length c.loop-end.end-items
 inside g c = let t = c.loop-end-test.true in let a = c.loop-end.auto.end-items in let b = c.loop-end.auto.end-index-end in omega arith

@@ -1,6 +1,5 @@
 use Rattle.std.proofs.Common.{ℕ, ◌<◌, get_or}
-use Rattle.vz_desk.specs.declared.totals.Totals.{Totals}
-use Rattle.vz_desk.specs.Owners.{Owner}
+use Rattle.vz_desk.specs.{declared.totals.Totals.Totals, Owners.Owner}
 use Rattle.vz_threads.specs.Crews.{CrewWorksOn, HasTakenAll}
 use Rattle.vz_threads.proofs.left.take_left.Given as goal
 

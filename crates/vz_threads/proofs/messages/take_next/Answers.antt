@@ -1,9 +1,7 @@
 use Rattle.std.proofs.Common.{◌≡◌, ◌+◌}
 use Rattle.vz_threads.specs.Crews.{WorksOn}
-use Rattle.vz_threads.proofs.Working.{works_did}
+use Rattle.vz_threads.proofs.{Working.works_did, messages.take_next.Goals.In-Did, messages.take_next.Given.Over}
 use Rattle.vz_threads.proofs.messages.take_next.Goals as goal
-use Rattle.vz_threads.proofs.messages.take_next.Goals.{In-Did}
-use Rattle.vz_threads.proofs.messages.take_next.Given.{Over}
 
 did : (g : Over) (c : In-Did g) → WorksOn c.args.end.now c.client-answer.new.end × (c.client-answer.new.end.totals.taken ≡ c.args.end.now.totals.taken + 1)
 did g c =

@@ -1,6 +1,5 @@
 use Rattle.std.proofs.Common.{ap, sym, arith}
-use Rattle.vz_threads.proofs.Gathered.{fresh_crew, fresh_many, all_of_desk}
-use Rattle.vz_threads.proofs.Through.{given_up}
+use Rattle.vz_threads.proofs.{Gathered.fresh_crew, Gathered.fresh_many, Gathered.all_of_desk, Through.given_up}
 use Rattle.vz_threads.proofs.piping.give_up.Goals as goal
 
 pub gather-machine-requires-clause-all : goal.gather-machine-requires-clause-all

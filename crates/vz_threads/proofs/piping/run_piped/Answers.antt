@@ -1,10 +1,9 @@
-use Rattle.std.proofs.Common.{◌≡◌, ℕ, List, refl, sym, ap, ◌∙◌}
+use Rattle.std.proofs.Common.{List, refl, sym, ap, ◌∙◌}
 use Rattle.vz_buffers.specs.Canvas.{Canvas}
 use Rattle.vz_outside.specs.Shelved.{Writing}
 use Rattle.vz_display.specs.Displayed.{Displayed}
 use Rattle.vz_pipe.specs.Ends.{Sending, Taking}
-use Rattle.vz_threads.specs.Outlets.{Fixed, outlook}
-use Rattle.vz_threads.specs.Pipes.{bytes_of, paper}
+use Rattle.vz_threads.specs.{Outlets.Fixed, Outlets.outlook, Pipes.bytes_of, Pipes.paper}
 use Rattle.vz_threads.proofs.Through.{ready_piped, piped_run, fixed_stays, pipe_stays, given_up_is}
 use Rattle.vz_threads.proofs.piping.run_piped.Goals as goal
 

@@ -1,6 +1,5 @@
 use Rattle.std.proofs.Common.{Err, subst, sym}
-use Rattle.vz_threads.specs.Outlets.{Outlook}
-use Rattle.vz_threads.specs.Rounds.{IsCut}
+use Rattle.vz_threads.specs.{Outlets.Outlook, Rounds.IsCut}
 use Rattle.vz_threads.proofs.Following.{cut_later}
 use Rattle.vz_threads.proofs.playing.play.Goals as goal
 

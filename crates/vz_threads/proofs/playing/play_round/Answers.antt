@@ -1,6 +1,5 @@
 use Rattle.vz_threads.specs.Rounds.{IsCutFrom}
-use Rattle.vz_threads.proofs.Ends.{err_as}
-use Rattle.vz_threads.proofs.Following.{cut_opening, begun_at, round_begun}
+use Rattle.vz_threads.proofs.{Ends.err_as, Following.cut_opening, Following.begun_at, Following.round_begun}
 use Rattle.vz_threads.proofs.playing.play_round.Goals as goal
 
 pub returns-in_default-clause-cut : goal.returns-in_default-clause-cut

@@ -1,9 +1,6 @@
 use Rattle.std.proofs.Common.{◌∙◌, refl}
-use Rattle.vz_threads.specs.Crews.{crew_of}
-use Rattle.vz_threads.specs.Rounds.{IsCutShort}
-use Rattle.vz_threads.proofs.Crewing.{crew_same, crew_then, crew_on}
-use Rattle.vz_threads.proofs.Ends.{err_as}
-use Rattle.vz_threads.proofs.Following.{same_self, same_then}
+use Rattle.vz_threads.specs.{Crews.crew_of, Rounds.IsCutShort}
+use Rattle.vz_threads.proofs.{Crewing.crew_same, Crewing.crew_then, Crewing.crew_on, Ends.err_as, Following.same_self, Following.same_then}
 use Rattle.vz_threads.proofs.playing.play_rounds.Goals as goal
 
 pub loop-init : goal.loop-init

@@ -1,10 +1,7 @@
 use Rattle.std.proofs.Common.{Err, subst, sym}
 use Rattle.vz_outside.specs.declared.shelf.ShelfError.TheVariants.{Memory}
-use Rattle.vz_threads.specs.Outlets.{Outlook}
-use Rattle.vz_threads.specs.Rounds.{IsCut, IsCutShort, HasEnded}
-use Rattle.vz_threads.proofs.Ends.{err_as}
-use Rattle.vz_threads.proofs.Rounding.{cut_here}
-use Rattle.vz_threads.proofs.Following.{rounds_over, cut_at}
+use Rattle.vz_threads.specs.{Outlets.Outlook, Rounds.IsCut, Rounds.IsCutShort, Rounds.HasEnded}
+use Rattle.vz_threads.proofs.{Ends.err_as, Rounding.cut_here, Following.rounds_over, Following.cut_at}
 use Rattle.vz_threads.proofs.playing.play_to_over.Goals as goal
 
 pub returns-in_err-play_rounds-clause-cut : goal.returns-in_err-play_rounds-clause-cut

@@ -1,4 +1,4 @@
-use Rattle.std.proofs.Common.{[], arith, subst, sym}
+use Rattle.std.proofs.Common.{arith, subst, sym}
 use Rattle.vz_threads.specs.Rounds.{HasPlayed}
 use Rattle.vz_threads.proofs.Gathered.{none_played, fresh_crew, fresh_many, fresh_planned}
 use Rattle.vz_threads.proofs.ran.run_opened.Goals as goal

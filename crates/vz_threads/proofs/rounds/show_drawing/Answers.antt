@@ -1,8 +1,7 @@
 use Rattle.std.proofs.Common.{subst}
 use Rattle.vz_outside.specs.Shelved.{Behaves}
 use Rattle.vz_desk.specs.Drawings.{IsDrawing}
-use Rattle.vz_threads.specs.Outlets.{Shows, BeginsFrame}
-use Rattle.vz_threads.specs.Rounds.{ShowsOnce, IsCutFrom}
+use Rattle.vz_threads.specs.{Outlets.Shows, Outlets.BeginsFrame, Rounds.ShowsOnce, Rounds.IsCutFrom}
 use Rattle.vz_threads.proofs.Ends.{on_ok, on_err}
 use Rattle.vz_threads.proofs.Rounding.{may, flies, shows_goes, begun_cut, drawn_none, cut_here}
 use Rattle.vz_threads.proofs.rounds.show_drawing.Goals as goal

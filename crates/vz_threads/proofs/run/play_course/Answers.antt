@@ -1,15 +1,10 @@
-use Rattle.std.proofs.Common.{◌≡◌, ◌+◌, ◌∙◌, ap, sym, subst, Err, IfOk, OnOk, OnErr}
-use Rattle.vz_outside.specs.Shelved.{KeepsOthers, Appends, AppendsFront, Behaves}
-use Rattle.vz_rules.specs.Plan.{Plan, IsPlan}
-use Rattle.vz_rules.specs.Step.{Legal, world}
-use Rattle.vz_rules.specs.Frames.{painted}
-use Rattle.vz_rules.specs.Log.{rest_of}
+use Rattle.std.proofs.Common.{◌≡◌, ◌+◌, ◌∙◌, ap, sym, subst, IfOk, OnOk, OnErr}
+use Rattle.vz_outside.specs.Shelved.{Appends, AppendsFront}
+use Rattle.vz_rules.specs.{Plan.Plan, Plan.IsPlan, Step.Legal, Step.world, Frames.painted, Log.rest_of}
 use Rattle.vz_display.specs.Displayed.{display_at}
-use Rattle.vz_threads.specs.Courses.{IsRun, frames_of}
+use Rattle.vz_threads.specs.{Courses.IsRun, Courses.frames_of, Runs.EndsWithTail, Runs.WritesMore, Runs.WritesMoreFront, Tails.AllComeDue}
 use Rattle.vz_outside.proofs.Calls.{Ran}
 use Rattle.vz_threads.specs.Rounds.{Setup}
-use Rattle.vz_threads.specs.Runs.{EndsWithTail, WritesMore, WritesMoreFront}
-use Rattle.vz_threads.specs.Tails.{AllComeDue}
 use Rattle.vz_threads.proofs.Gathered.{legal_first}
 use Rattle.vz_threads.proofs.Finished.{is_ready, whole_of, cut_of, comes_due, open_still, run_whole, ok_then, ok_both, err_then, all_written, front_written, others_written, behaves_then, all_counted, ok_ran, cut_behaves}
 use Rattle.vz_threads.proofs.run.play_course.Goals as goal

@@ -1,12 +1,8 @@
 use Rattle.std.proofs.Common.{◌≡◌, true, [], ◌∷◌, sym, ap, ◌∙◌}
-use Rattle.vz_rules.specs.World.{Machine}
-use Rattle.vz_rules.specs.Course.{some_waits}
-use Rattle.vz_rules.specs.Step.{world}
-use Rattle.vz_rules.specs.declared.entry.Event.TheVariants.{Begin}
-use Rattle.vz_outside.proofs.Calls.{ran_one}
+use Rattle.vz_rules.specs.{World.Machine, Course.some_waits, Step.world, declared.entry.Event.TheVariants.Begin}
+use Rattle.vz_outside.proofs.{Calls.ran_one, Behaving.on_err, Behaving.behaves_at, Behaving.then_behaves}
 use Rattle.vz_player.specs.Taken.{AddsFramesFront}
 use Rattle.vz_player.proofs.Adding.{others_kept}
-use Rattle.vz_outside.proofs.Behaving.{on_err, behaves_at, then_behaves}
 use Rattle.vz_threads.specs.Tails.{GoesOn}
 use Rattle.vz_threads.proofs.Tailing.{first_begins, next_begins, next_nears, front_written, stopped_goes, then_goes}
 use Rattle.vz_threads.proofs.tail.begin_awaited.Goals as goal

@@ -1,11 +1,9 @@
 use Rattle.std.proofs.Common.{rules, ◌≡◌, true, false, [], ◌∷◌, ap, ◌∙◌}
-use Rattle.vz_outside.proofs.Calls.{ran_one}
+use Rattle.vz_outside.proofs.{Calls.ran_one, Behaving.on_err, Behaving.behaves_at, Behaving.then_behaves}
 use Rattle.vz_outside.specs.Shelved.{Writing}
 use Rattle.vz_rules.specs.declared.entry.Event.TheVariants.{Draw, Done}
 use Rattle.vz_player.specs.Taken.{AddsFramesFront}
-use Rattle.vz_player.proofs.Adding.{others_kept}
-use Rattle.vz_outside.proofs.Behaving.{on_err, behaves_at, then_behaves}
-use Rattle.vz_player.proofs.Taking.{plan_all, stopped_all}
+use Rattle.vz_player.proofs.{Adding.others_kept, Taking.plan_all, Taking.stopped_all}
 use Rattle.vz_threads.specs.Tails.{GoesOn}
 use Rattle.vz_threads.proofs.Tailing.{one_written, then_written, all_written, front_written, stopped_goes, one_goes, show_alone, show_done}
 use Rattle.vz_threads.proofs.tail.play_show.Goals as goal

@@ -1,7 +1,6 @@
-use Rattle.vz_outside.proofs.Calls.{ran_one}
+use Rattle.vz_outside.proofs.{Calls.ran_one, Behaving.on_err, Behaving.behaves_at, Behaving.then_behaves}
 use Rattle.vz_player.specs.Taken.{AddsFramesFront}
 use Rattle.vz_player.proofs.Adding.{others_kept}
-use Rattle.vz_outside.proofs.Behaving.{on_err, behaves_at, then_behaves}
 use Rattle.vz_outside.specs.Shelved.{Writing}
 use Rattle.vz_threads.proofs.Tailing.{one_written, then_written, all_written, front_written}
 use Rattle.vz_threads.proofs.tail.play_tail.Goals as goal

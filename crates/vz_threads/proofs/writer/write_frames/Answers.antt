@@ -1,7 +1,6 @@
 use Rattle.std.proofs.Common.{sym}
 use Rattle.vz_threads.specs.Pipes.{bytes_of}
-use Rattle.vz_threads.proofs.Papers.{front_longer}
-use Rattle.vz_threads.proofs.Through.{bytes_then_bytes}
+use Rattle.vz_threads.proofs.{Papers.front_longer, Through.bytes_then_bytes}
 use Rattle.vz_threads.proofs.writer.write_frames.Goals as goal
 
 pub returns-in-Err-clause-begun : goal.returns-in-Err-clause-begun

@@ -1,6 +1,4 @@
-use Rattle.std.proofs.Common.{◌≡◌, ◌++◌, List, ℕ}
-use Rattle.vz_player.proofs.Adding.{HasAdded}
-use Rattle.vz_threads.specs.Pipes.{bytes_of}
+use Rattle.std.proofs.Common.{◌≡◌}
 use Rattle.vz_threads.proofs.Through.{HasWrittenLeft}
 use Rattle.vz_threads.proofs.writer.write_left.Given as goal
 

@@ -1,7 +1,6 @@
-use Rattle.std.proofs.Common.{[], ◌∙◌, ap, arith, subst, sym}
+use Rattle.std.proofs.Common.{◌∙◌, ap, arith, subst, sym}
 use Rattle.vz_threads.specs.Rounds.{HasPlayed}
-use Rattle.vz_threads.proofs.Gathered.{none_played, fresh_crew, fresh_many, fresh_planned}
-use Rattle.vz_threads.proofs.Through.{wrote_there}
+use Rattle.vz_threads.proofs.{Gathered.none_played, Gathered.fresh_crew, Gathered.fresh_many, Gathered.fresh_planned, Through.wrote_there}
 use Rattle.vz_threads.proofs.writing.run_beside.Goals as goal
 
 pub play_joined-beside-requires-clause-crew : goal.play_joined-beside-requires-clause-crew

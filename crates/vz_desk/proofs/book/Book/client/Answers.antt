@@ -1,7 +1,6 @@
 use Rattle.std.proofs.Common.{arith}
 use Rattle.vz_rules.specs.declared.entry.Event.TheVariants as event
-use Rattle.vz_desk.proofs.Booking.{goes_on, keeps_on}
-use Rattle.vz_desk.proofs.Telling.{tells_next}
+use Rattle.vz_desk.proofs.{Booking.goes_on, Booking.keeps_on, Telling.tells_next}
 use Rattle.vz_desk.proofs.book.Book.client.Goals as goal
 
 pub invariant_of-self-2 : goal.invariant_of-self-2

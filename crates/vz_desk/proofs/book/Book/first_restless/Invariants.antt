@@ -1,6 +1,5 @@
 use Rattle.std.proofs.Common.{◌≡◌, ℕ, ◌+◌, ◌<◌, false}
-use Rattle.vz_desk.specs.Books.{machine_of}
-use Rattle.vz_desk.specs.Calm.{restless_at}
+use Rattle.vz_desk.specs.{Books.machine_of, Calm.restless_at}
 use Rattle.vz_desk.proofs.book.Book.first_restless.Given as goal
 
 abbrev pub invariant-loop-before : goal.invariant-loop-before

@@ -1,7 +1,6 @@
 use Rattle.std.proofs.Common.{refl, ap, sym, ◌∙◌}
 use Rattle.vz_desk.specs.Books.{numbered}
-use Rattle.vz_desk.proofs.Displaying.{quiet_display}
-use Rattle.vz_desk.proofs.Pausing.{paused}
+use Rattle.vz_desk.proofs.{Displaying.quiet_display, Pausing.paused}
 use Rattle.vz_desk.proofs.desk.Desk.look.Goals as goal
 
 pub invariant_of-d : goal.invariant_of-d

@@ -1,7 +1,6 @@
 use Rattle.std.proofs.Common.{arith, ap, sym, ◌∙◌, Some, length, ◌+◌}
 use Rattle.vz_loans.specs.Tokens.{unused_from}
-use Rattle.vz_desk.specs.Totals.{no_display_totals}
-use Rattle.vz_desk.specs.Owners.{owner_of}
+use Rattle.vz_desk.specs.{Totals.no_display_totals, Owners.owner_of}
 use Rattle.vz_desk.proofs.Dealing.{all_unused, ends_are, last_is, planned_is, length_unused}
 use Rattle.vz_desk.proofs.desk.Desk.open.Goals as goal
 

@@ -2,9 +2,7 @@ use Rattle.std.proofs.Common.{◌≡◌, None, rules, ap, sym, subst, ◌∙◌,
 use mathlib.Core.List.{IsPrefix}
 use Rattle.vz_loans.specs.Rule.{places}
 use Rattle.vz_rules.specs.declared.entry.Event.TheVariants as event
-use Rattle.vz_desk.specs.Books.{numbered}
-use Rattle.vz_desk.specs.Owners.{owner_of, IsSameOwner}
-use Rattle.vz_desk.specs.Answers.{Told}
+use Rattle.vz_desk.specs.{Books.numbered, Owners.owner_of, Owners.IsSameOwner, Answers.Told}
 use Rattle.vz_desk.proofs.Owning.{turned_end}
 use Rattle.vz_desk.proofs.Calling.{plan_kept, runs_on, client_leaves, entered, client_end, client_told, few_there, waits_out, last_made, same_owner, later_still}
 use Rattle.vz_desk.proofs.desk.Desk.take.Goals as goal

@@ -1,6 +1,5 @@
-use Rattle.std.proofs.Common.{◌≡◌, ◌∙◌, length, ap}
+use Rattle.std.proofs.{Common.◌≡◌, Common.◌∙◌, Common.length, Common.ap, lemmas.Simd.length-chunk}
 use Rattle.std.specs.Prelude.{replicate}
-use Rattle.std.proofs.lemmas.Simd.{length-chunk}
 use lib.Lanes.{chunk, zip2}
 use Rattle.vz_pixels.specs.Colour.{mul}
 use Rattle.vz_kernel.specs.Lanes.{doubled}

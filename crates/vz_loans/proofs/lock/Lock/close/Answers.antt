@@ -1,9 +1,7 @@
 use Rattle.std.proofs.Common.{◌≡◌, ap, sym, subst, ◌∙◌, Option, Some, None}
 use Rattle.vz_loans.specs.Tokens.{IsClosedBy}
-use Rattle.vz_loans.proofs.Ends.{Settled, finds, or_else}
+use Rattle.vz_loans.proofs.{Ends.Settled, Ends.finds, Ends.or_else, lock.Lock.close.Goals.After-take-state, lock.Lock.close.Given.Over}
 use Rattle.vz_loans.proofs.lock.Lock.close.Goals as goal
-use Rattle.vz_loans.proofs.lock.Lock.close.Goals.{After-take-state}
-use Rattle.vz_loans.proofs.lock.Lock.close.Given.{Over}
 
 found : (g : Over) (c : After-take-state g) → (k : g.row.K.Denot) × (c.take-state.result ≡ Some k) × Settled g.K.Kept.plan g.K.Kept.entries c.gather-seat.result.me.0 k
 found g c = let whole = c.gather-seat.ensures.whole in

@@ -1,6 +1,5 @@
 use Rattle.std.proofs.Common.{◌≡◌, ℕ, ◌+◌, ◌-◌, ◌++◌, ◌∷◌, [], rules, arith, ap, sym, ◌∙◌}
-use Rattle.vz_loans.specs.Rule.{ready}
-use Rattle.vz_loans.specs.Tokens.{unused, unused_from}
+use Rattle.vz_loans.specs.{Rule.ready, Tokens.unused, Tokens.unused_from}
 use Rattle.vz_loans.proofs.Begun.{unused_more}
 use Rattle.vz_loans.proofs.lock.Lock.deal.Goals as goal
 

@@ -1,6 +1,5 @@
 use Rattle.std.proofs.Common.{◌≡◌, ◌+◌, ◌-◌, ◌≤◌, vec_len, vec_capacity}
-use Rattle.vz_loans.specs.Tokens.{unused_from}
-use Rattle.vz_loans.specs.Rule.{ready}
+use Rattle.vz_loans.specs.{Tokens.unused_from, Rule.ready}
 use Rattle.vz_loans.proofs.lock.Lock.deal.Given as goal
 
 abbrev pub invariant-loop-number : goal.invariant-loop-number

@@ -1,6 +1,5 @@
 use Rattle.std.proofs.Common.{rules, arith, ap, ◌∙◌}
-use Rattle.vz_loans.proofs.Ends.{cuts}
-use Rattle.vz_loans.proofs.Begun.{leaves_ready, gives_ready, holds_single, enough}
+use Rattle.vz_loans.proofs.{Ends.cuts, Begun.leaves_ready, Begun.gives_ready, Begun.holds_single, Begun.enough}
 use Rattle.vz_loans.proofs.lock.Lock.give.Goals as goal
 
 pub split_seat-requires : goal.split_seat-requires

@@ -1,8 +1,6 @@
 use Rattle.std.proofs.Common.{rules, arith, ap, sym, subst, ◌∙◌}
-use Rattle.vz_loans.proofs.Held.{Adds, leaves, left_held, Left}
-use Rattle.vz_loans.proofs.Logs.{places_none, places_one}
+use Rattle.vz_loans.proofs.{Held.Adds, Held.leaves, Held.left_held, Held.Left, Logs.places_none, Logs.places_one, lock.Lock.leave.Goals.After-store}
 use Rattle.vz_loans.proofs.lock.Lock.leave.Goals as goal
-use Rattle.vz_loans.proofs.lock.Lock.leave.Goals.{After-store}
 use Rattle.vz_loans.proofs.lock.Lock.leave.Given.{Over}
 
 pub store-requires : goal.store-requires

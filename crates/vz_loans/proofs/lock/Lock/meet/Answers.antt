@@ -1,12 +1,9 @@
 use Rattle.std.proofs.Common.{rules, ap, subst, ◌∙◌, inl, inr, ⊎_elim}
 use mathlib.Core.List.{IsPrefix}
 use Rattle.vz_loans.specs.Tokens.{mine}
-use Rattle.vz_loans.proofs.Closing.{caller_of}
-use Rattle.vz_loans.proofs.Ends.{joins}
+use Rattle.vz_loans.proofs.{Closing.caller_of, Ends.joins, lock.Lock.meet.Goals.After-load, lock.Lock.meet.Given.Over}
 use Rattle.vz_loans.proofs.Meets.{notes, compares, short_olds, tells_base, meets, Met, joins_both}
 use Rattle.vz_loans.proofs.lock.Lock.meet.Goals as goal
-use Rattle.vz_loans.proofs.lock.Lock.meet.Goals.{After-load}
-use Rattle.vz_loans.proofs.lock.Lock.meet.Given.{Over}
 
 pub split_seat-note-requires : goal.split_seat-note-requires
 split_seat-note-requires g c = (search rules, search rules, notes _ _ _ _ _ _)

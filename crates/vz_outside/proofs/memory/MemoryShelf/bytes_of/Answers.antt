@@ -1,6 +1,5 @@
 use Rattle.std.proofs.Common.{◌≡◌, ◌∙◌, sym, ap, Some, List, String, Vec, ℕ}
-use Rattle.std.specs.Global.{Global}
-use Rattle.std.specs.Option.{option_copied}
+use Rattle.std.specs.{Global.Global, Option.option_copied}
 use Rattle.vz_outside.proofs.Places.{bytes_stored, bytes_missing}
 use Rattle.vz_outside.specs.InMemory.{InMemory, File, files_of, first_named}
 use Rattle.vz_outside.proofs.memory.MemoryShelf.bytes_of.Goals as goal

@@ -1,6 +1,5 @@
 use Rattle.std.proofs.Common.{◌∙◌, ap, sym, subst, List, ◌++◌, ◌∷◌, []}
-use Rattle.vz_outside.proofs.Held.{change_emptied, kept_files, kept_push, ChangesOne}
-use Rattle.vz_outside.proofs.Places.{place_first}
+use Rattle.vz_outside.proofs.{Held.change_emptied, Held.kept_files, Held.kept_push, Held.ChangesOne, Places.place_first}
 use Rattle.vz_outside.specs.InMemory.{File, InMemory, IsKept, files_of, writing_to}
 use Rattle.vz_outside.specs.declared.memory.Slot.{Slot}
 use Rattle.vz_outside.proofs.memory.MemoryShelf.create_file.Goals as goal

@@ -1,8 +1,6 @@
 use Rattle.std.proofs.Common.{◌∙◌, ap, sym, subst, List, ◌++◌, ◌∷◌, [], Some}
-use Rattle.vz_outside.proofs.Held.{kept_push}
-use Rattle.vz_outside.proofs.Places.{found_there, place_first}
-use Rattle.vz_outside.specs.InMemory.{InMemory, IsKept, files_of, reading_from}
-use Rattle.vz_outside.specs.declared.memory.Slot.{Slot}
+use Rattle.vz_outside.proofs.{Held.kept_push, Places.found_there, Places.place_first}
+use Rattle.vz_outside.specs.{InMemory.InMemory, InMemory.IsKept, InMemory.files_of, InMemory.reading_from, declared.memory.Slot.Slot}
 use Rattle.vz_outside.proofs.memory.MemoryShelf.open_file.Goals as goal
 
 pub invariant_of-self-2 : goal.invariant_of-self-2

@@ -1,7 +1,6 @@
 use Rattle.std.proofs.Common.{◌≡◌, ◌∙◌, ap, sym, subst, arith, refl, length, set, ◌+◌, String, Vec, ℕ}
 use Rattle.std.specs.Global.{Global}
-use Rattle.vz_outside.proofs.Held.{kept-set, moves_made, slot_low, slot_read}
-use Rattle.vz_outside.proofs.Places.{stored_at, stored_length}
+use Rattle.vz_outside.proofs.{Held.kept-set, Held.moves_made, Held.slot_low, Held.slot_read, Places.stored_at, Places.stored_length}
 use Rattle.vz_outside.specs.InMemory.{File, InMemory, Moves, file_at, files_of, reading_from}
 use Rattle.vz_outside.specs.Shelved.{Reading}
 use Rattle.vz_outside.proofs.memory.MemoryShelf.read_on.Goals as goal

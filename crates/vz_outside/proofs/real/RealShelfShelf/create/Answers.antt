@@ -1,6 +1,5 @@
 use Rattle.std.proofs.Common.{◌∙◌, ap, Ok}
-use Rattle.vz_outside.proofs.OuterCalls.{outer_behaves, pushed_modes}
-use Rattle.vz_outside.proofs.Rises.{cause_of_ok, ok_not_failed}
+use Rattle.vz_outside.proofs.{OuterCalls.outer_behaves, OuterCalls.pushed_modes, Rises.cause_of_ok, Rises.ok_not_failed}
 use Rattle.vz_outside.specs.Outer.{Outer}
 use Rattle.vz_outside.proofs.real.RealShelfShelf.create.Goals as goal
 

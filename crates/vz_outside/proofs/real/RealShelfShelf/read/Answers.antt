@@ -1,10 +1,8 @@
 use Rattle.std.proofs.Common.{ap, subst, ℕ}
 use Rattle.vz_outside.proofs.OuterCalls.{kept_modes, open_low, other_bytes, outer_behaves, outer_untouched, same_modes, slot_bytes}
 use Rattle.vz_outside.proofs.Places.{on_err}
-use Rattle.vz_outside.specs.Faults.{HasCause}
+use Rattle.vz_outside.specs.{Faults.HasCause, Outer.Outer, Outer.handle_bytes, Shelved.Reading}
 use Rattle.std.specs.Io.KnownBytes.{ReadConsumes}
-use Rattle.vz_outside.specs.Outer.{Outer, handle_bytes}
-use Rattle.vz_outside.specs.Shelved.{Reading}
 use Rattle.vz_outside.proofs.real.RealShelfShelf.read.Goals as goal
 
 pub returns-clause-untouched : goal.returns-clause-untouched

@@ -1,67 +1,44 @@
-use Rattle.std.proofs.Common.{◌≡◌, ◌+◌, None, false, Bool, refl, ap, subst, ◌∙◌, arith}
+use Rattle.std.proofs.Common.{None, false, refl, ap, ◌∙◌, arith}
 use Rattle.vz_rules.specs.World.{Machine}
-use Rattle.vz_player.specs.Played.{Played, IsPlayed, StopsAt, played_on}
-use Rattle.vz_player.proofs.Playing.{on_err, new_is, going_is, played_is, writes_is, counted_is, stops_before, same_played}
+use Rattle.vz_player.specs.Played.{Played, StopsAt}
+use Rattle.vz_player.proofs.Playing.{on_err, unturned, turn_invariant, turn_taken, turn_written, turn_counted}
 use Rattle.vz_player.proofs.player.Player.take_plain.Goals as goal
 
 pub returns-in_err-reserve-clause-err : goal.returns-in_err-reserve-clause-err
 returns-in_err-reserve-clause-err g c =
     let m : Machine = g.M.Machine.state c.self.inside.machine in
-    on_err c.from_residual.result (StopsAt c.args.self.now c.args.event _)
-    (stops_before c.args.self.now _ c.args.event (same_played m m c.self.inside.history.list c.reserve.new.self.list c.self.inside.buffers c.self.inside.stopped c.args.self.now c.self.view_is refl c.in_err-reserve.ensures.list))
+    on_err c.from_residual.result (StopsAt c.args.self.now c.args.event _) (unturned m m c.args.event c.self.view_is refl c.in_err-reserve.ensures.list)
 
 pub returns-in_err-plain-clause-err : goal.returns-in_err-plain-clause-err
 returns-in_err-plain-clause-err g c =
-    let m : Machine = g.M.Machine.state c.self.inside.machine in
-    let n : Machine = g.M.Machine.state c.take_gated.new.machine in
     on_err c.from_residual-in_err-plain.result (StopsAt c.args.self.now c.args.event _)
-    (stops_before c.args.self.now _ c.args.event (same_played m n c.self.inside.history.list c.reserve.new.self.list c.self.inside.buffers c.self.inside.stopped c.args.self.now c.self.view_is c.in_err-plain.ensures.err c.in_ok-reserve.ensures.list))
+    (unturned (g.M.Machine.state c.self.inside.machine) (g.M.Machine.state c.take_gated.new.machine) c.args.event c.self.view_is c.in_err-plain.ensures.err
+    c.in_ok-reserve.ensures.list)
 
 pub invariant_of-self-2 : goal.invariant_of-self-2
 invariant_of-self-2 g c =
-    let old : Played = c.args.self.now in
-    let m : Machine = g.M.Machine.state c.self.inside.machine in
-    let n : Machine = g.M.Machine.state c.take_gated.new.machine in
-    let is : IsPlayed m c.self.inside.display.shown old = subst (IsPlayed m c.self.inside.display.shown) c.self.view_is c.self.invariant in
-    let next = new_is m n c.self.inside.display.shown old c.args.event c.in_ok-plain.plain c.reserve.new.self.list c.put.new.self.list c.self.inside.buffers c.self.inside.stopped is c.in_ok-plain.ensures.entry c.in_ok-plain.ensures.world
-    (c.in_ok-reserve.ensures.list ∙ ap (λ (p : Played). p.history) c.self.view_is) c.put.ensures.list (ap (λ (p : Played). p.buffers) c.self.view_is) in
-    played_is m n c.self.inside.display.shown c.self.inside.display.shown old _ c.args.event c.in_ok-plain.plain None c.self.inside.stopped is c.requires.named
-    c.in_ok-plain.ensures.entry c.in_ok-plain.ensures.world c.in_ok-plain.ensures.picture c.requires.going (λ t. refl) next
+    let step = c.in_ok-plain.ensures in
+    turn_invariant (g.M.Machine.state c.self.inside.machine) (g.M.Machine.state c.take_gated.new.machine) c.args.event None
+    c.self.view_is c.self.invariant step.entry step.world step.picture c.in_ok-reserve.ensures.list c.put.ensures.list c.requires.going c.requires.named c.self.inside.display.shown c.self.inside.stopped (λ t. refl)
 
 pub returns-clause-taken : goal.returns-clause-taken
 returns-clause-taken g c =
-    let old : Played = c.args.self.now in
-    let m : Machine = g.M.Machine.state c.self.inside.machine in
-    let n : Machine = g.M.Machine.state c.take_gated.new.machine in
-    let is : IsPlayed m c.self.inside.display.shown old = subst (IsPlayed m c.self.inside.display.shown) c.self.view_is c.self.invariant in
-    let next = new_is m n c.self.inside.display.shown old c.args.event c.in_ok-plain.plain c.reserve.new.self.list c.put.new.self.list c.self.inside.buffers c.self.inside.stopped is c.in_ok-plain.ensures.entry c.in_ok-plain.ensures.world
-    (c.in_ok-reserve.ensures.list ∙ ap (λ (p : Played). p.history) c.self.view_is) c.put.ensures.list (ap (λ (p : Played). p.buffers) c.self.view_is) in
-    let stays : c.self.inside.stopped ≡ false = ap (λ (p : Played). p.stopped) c.self.view_is ∙ c.requires.going in
-    let goes = going_is old _ c.args.event c.requires.going (next ∙ ap (λ (s : Bool). record (played_on old c.args.event) { stopped = s }) stays) in
-    goes
+    let step = c.in_ok-plain.ensures in
+    turn_taken (g.M.Machine.state c.self.inside.machine) (g.M.Machine.state c.take_gated.new.machine) c.args.event None
+    c.self.view_is c.self.invariant step.entry step.world step.picture c.in_ok-reserve.ensures.list c.put.ensures.list c.requires.going c.self.inside.stopped
+    (ap (λ (p : Played). p.stopped) c.self.view_is ∙ c.requires.going)
 
 pub returns-clause-written : goal.returns-clause-written
 returns-clause-written g c =
-    let old : Played = c.args.self.now in
-    let m : Machine = g.M.Machine.state c.self.inside.machine in
-    let n : Machine = g.M.Machine.state c.take_gated.new.machine in
-    let is : IsPlayed m c.self.inside.display.shown old = subst (IsPlayed m c.self.inside.display.shown) c.self.view_is c.self.invariant in
-    let next = new_is m n c.self.inside.display.shown old c.args.event c.in_ok-plain.plain c.reserve.new.self.list c.put.new.self.list c.self.inside.buffers c.self.inside.stopped is c.in_ok-plain.ensures.entry c.in_ok-plain.ensures.world
-    (c.in_ok-reserve.ensures.list ∙ ap (λ (p : Played). p.history) c.self.view_is) c.put.ensures.list (ap (λ (p : Played). p.buffers) c.self.view_is) in
-    let stays : c.self.inside.stopped ≡ false = ap (λ (p : Played). p.stopped) c.self.view_is ∙ c.requires.going in
-    let goes = going_is old _ c.args.event c.requires.going (next ∙ ap (λ (s : Bool). record (played_on old c.args.event) { stopped = s }) stays) in
-    writes_is m c.self.inside.display.shown old _ c.args.event c.in_ok-plain.plain None false is c.in_ok-plain.ensures.entry c.in_ok-plain.ensures.picture refl goes
+    let step = c.in_ok-plain.ensures in
+    turn_written (g.M.Machine.state c.self.inside.machine) (g.M.Machine.state c.take_gated.new.machine) c.args.event None
+    c.self.view_is c.self.invariant step.entry step.world step.picture c.in_ok-reserve.ensures.list c.put.ensures.list c.requires.going c.self.inside.stopped
+    (ap (λ (p : Played). p.stopped) c.self.view_is ∙ c.requires.going) false refl
 
 pub returns-clause-counted : goal.returns-clause-counted
 returns-clause-counted g c =
-    let old : Played = c.args.self.now in
-    let m : Machine = g.M.Machine.state c.self.inside.machine in
-    let n : Machine = g.M.Machine.state c.take_gated.new.machine in
-    let is : IsPlayed m c.self.inside.display.shown old = subst (IsPlayed m c.self.inside.display.shown) c.self.view_is c.self.invariant in
-    let next = new_is m n c.self.inside.display.shown old c.args.event c.in_ok-plain.plain c.reserve.new.self.list c.put.new.self.list c.self.inside.buffers c.self.inside.stopped is c.in_ok-plain.ensures.entry c.in_ok-plain.ensures.world
-    (c.in_ok-reserve.ensures.list ∙ ap (λ (p : Played). p.history) c.self.view_is) c.put.ensures.list (ap (λ (p : Played). p.buffers) c.self.view_is) in
-    let stays : c.self.inside.stopped ≡ false = ap (λ (p : Played). p.stopped) c.self.view_is ∙ c.requires.going in
-    let goes = going_is old _ c.args.event c.requires.going (next ∙ ap (λ (s : Bool). record (played_on old c.args.event) { stopped = s }) stays) in
-    let none : 0 ≡ 0 + 0 = omega arith in
-    let same = counted_is m c.self.inside.display.shown old _ c.args.event c.in_ok-plain.plain None 0 0 is c.in_ok-plain.ensures.entry c.in_ok-plain.ensures.picture c.requires.going none goes in
+    let step = c.in_ok-plain.ensures in
+    let same = turn_counted (g.M.Machine.state c.self.inside.machine) (g.M.Machine.state c.take_gated.new.machine) c.args.event None
+    c.self.view_is c.self.invariant step.entry step.world step.picture c.in_ok-reserve.ensures.list c.put.ensures.list c.requires.going c.self.inside.stopped
+    (ap (λ (p : Played). p.stopped) c.self.view_is ∙ c.requires.going) 0 0 refl in
     omega (arith, same)

@@ -2,8 +2,7 @@ use Rattle.std.proofs.Common.{None, [], ap, ◌∙◌}
 use Rattle.std.specs.Option.{option_copied}
 use Rattle.vz_rules.specs.World.{frame_on}
 use Rattle.vz_rules.proofs.Members.{contains_none}
-use Rattle.vz_scene.proofs.Chains.{group_is, group_none}
-use Rattle.vz_scene.proofs.Showing.{found_on}
+use Rattle.vz_scene.proofs.{Chains.group_is, Chains.group_none, Showing.found_on}
 use Rattle.vz_scene.proofs.active_frames.ActiveFrames.frame_on.Goals as goal
 
 pub returns-in-None : goal.returns-in-None

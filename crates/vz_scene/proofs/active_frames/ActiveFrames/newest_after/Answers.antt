@@ -2,8 +2,7 @@ use Rattle.std.proofs.Common.{None, [], filter, ap, ◌∙◌}
 use Rattle.std.specs.Option.{option_copied}
 use Rattle.vz_rules.specs.Scene.{after_start, newest}
 use Rattle.vz_rules.proofs.Members.{contains_none}
-use Rattle.vz_scene.proofs.Chains.{group_is, group_none}
-use Rattle.vz_scene.proofs.Showing.{found_after, no_start}
+use Rattle.vz_scene.proofs.{Chains.group_is, Chains.group_none, Showing.found_after, Showing.no_start}
 use Rattle.vz_scene.proofs.active_frames.ActiveFrames.newest_after.Goals as goal
 
 pub returns-in-None : goal.returns-in-None

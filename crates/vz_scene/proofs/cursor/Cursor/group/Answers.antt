@@ -3,10 +3,8 @@ use Rattle.vz_frame.specs.declared.frame.CompositorFrame.{CompositorFrame}
 use Rattle.vz_geom.specs.Rectangle.{corner}
 use Rattle.vz_placement.specs.Limits.{HasRoom, coordinates, room_for}
 use Rattle.vz_scene.specs.Walking.{Cursor, IsBounded}
-use Rattle.vz_placement.proofs.Fitting.{pass_at_in_reach}
-use Rattle.vz_placement.proofs.Rooms.{room_less}
-use Rattle.vz_scene.proofs.Stacking.{cursor_group}
-use Rattle.vz_scene.proofs.Cursors.{group_bounded}
+use Rattle.vz_placement.proofs.{Fitting.pass_at_in_reach, Rooms.room_less}
+use Rattle.vz_scene.proofs.{Stacking.cursor_group, Cursors.group_bounded}
 use Rattle.vz_scene.proofs.cursor.Cursor.group.Goals as goal
 
 pub inside-requires-clause-pass : goal.inside-requires-clause-pass

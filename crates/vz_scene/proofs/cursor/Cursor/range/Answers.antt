@@ -1,7 +1,6 @@
 use Rattle.std.proofs.Common.{◌+◌, ◌++◌, ◌∷◌, [], sym, ap, ◌∙◌, length}
 use Rattle.std.specs.Option.{option_copied}
-use Rattle.vz_rules.specs.Paint.{on_path}
-use Rattle.vz_rules.specs.Walk.{Shows, walk}
+use Rattle.vz_rules.specs.{Paint.on_path, Walk.Shows, Walk.walk}
 use Rattle.vz_scene.specs.Walking.{Cursor}
 use Rattle.vz_scene.proofs.Stacking.{range_none, range_again, range_enters}
 use Rattle.vz_scene.proofs.cursor.Cursor.range.Goals as goal

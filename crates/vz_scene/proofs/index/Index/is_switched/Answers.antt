@@ -1,7 +1,6 @@
 use Rattle.std.proofs.Common.{ap, ◌∙◌}
 use Rattle.std.specs.Option.{option_copied}
-use Rattle.vz_rules.specs.World.{Aggregation}
-use Rattle.vz_rules.specs.Damage.{is_switched}
+use Rattle.vz_rules.specs.{World.Aggregation, Damage.is_switched}
 use Rattle.vz_scene.proofs.Ties.{switched_is}
 use Rattle.vz_scene.proofs.index.Index.is_switched.Goals as goal
 
