@@ -42,8 +42,8 @@ message_told : (format : ℕ) (m : Message)
 unfolding message_bytes fits_message
 message_told format (message.Upload id block) =
     (refl, refl, remade (ids ⊠ blocks) (λ p. message.Upload p.0 p.1) (id, block))
-message_told format (message.Submit local frame) =
-    (refl, refl, remade (locals ⊠ frames format) (λ p. message.Submit p.0 p.1) (local, frame))
+message_told format (message.Submit frame local) =
+    (refl, refl, remade (locals ⊠ frames format) (λ p. message.Submit p.1 p.0) (local, frame))
 message_told format (message.DidNotProduce n) = (refl, refl, remade numbers32 message.DidNotProduce n)
 message_told format message.Reclaim = (refl, refl, λ rest h. refl)
 message_told format (message.SetRoot local) = (refl, refl, remade locals message.SetRoot local)
@@ -59,7 +59,7 @@ messages format =
     let fit = fits_message format in
     let parts =
     turned (ids ⊠ blocks) spell fit 1 (λ p. message.Upload p.0 p.1) (λ _ h. (refl, h))
-    ⨾ turned (locals ⊠ frames format) spell fit 2 (λ p. message.Submit p.0 p.1) (λ _ h. (refl, h))
+    ⨾ turned (locals ⊠ frames format) spell fit 2 (λ p. message.Submit p.1 p.0) (λ _ h. (refl, h))
     ⨾ turned numbers32 spell fit 3 message.DidNotProduce (λ _ h. (refl, h))
     ⨾ lone spell fit 4 message.Reclaim refl refl
     ⨾ turned locals spell fit 5 message.SetRoot (λ _ h. (refl, h))

@@ -65,7 +65,7 @@ page_file =
     record {
       format = 1;
       sink = sink_of 1;
-      messages = Hierarchy (sink_of 1) (sink_of 2) ∷ Hierarchy (sink_of 1) (sink_of 3) ∷ Submit (local_of 1) page ∷ SetRoot (local_of 1) ∷ [];
+      messages = Hierarchy (sink_of 1) (sink_of 2) ∷ Hierarchy (sink_of 1) (sink_of 3) ∷ Submit page (local_of 1) ∷ SetRoot (local_of 1) ∷ [];
     }
 
 -- the resource of round r
@@ -97,7 +97,7 @@ block_of r = record { w = 4; h = 4; pixels = replicate 16 (colour (r % 256) 0 0)
 -- the four messages of client k in round r
 abbrev pub round_of : ℕ → ℕ → List Message
 round_of k r =
-    Await ∷ Reclaim ∷ Upload (resource_of r) (block_of r) ∷ Submit (local_of k) (child_frame k r) ∷ []
+    Await ∷ Reclaim ∷ Upload (resource_of r) (block_of r) ∷ Submit (child_frame k r) (local_of k) ∷ []
 
 -- the messages of n rounds, from round r on
 abbrev pub rounds_from : ℕ → ℕ → ℕ → List Message

@@ -69,7 +69,7 @@ attached_at m c = asked (client_at m.world c) (is_attached m.plan m.world)
 
 -- how many resources a message's frame lists; 0 if it has no frame
 abbrev pub listed_in : Option Message → ℕ
-listed_in (Some (Submit local frame)) = length frame.resources
+listed_in (Some (Submit frame local)) = length frame.resources
 listed_in _ = 0
 
 -- how many resources the next message of a client lists

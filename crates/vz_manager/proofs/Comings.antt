@@ -19,7 +19,7 @@ Found p w c x kind.Nothing = HasNone p w c x
 Found p w c x kind.Closed = (m : Message) × IsClosed p w c x m
 Found p w c x kind.Upload = (id : ℕ) × (block : Block) × IsSending p w c x (message.Upload id block)
 Found p w c x kind.Submit =
-    (local : LocalSurfaceId) × (frame : CompositorFrame) × IsSending p w c x (message.Submit local frame)
+    (local : LocalSurfaceId) × (frame : CompositorFrame) × IsSending p w c x (message.Submit frame local)
 Found p w c x kind.DidNotProduce = (n : ℕ) × IsSending p w c x (message.DidNotProduce n)
 Found p w c x kind.Reclaim = IsSending p w c x message.Reclaim
 Found p w c x kind.SetRoot = (local : LocalSurfaceId) × IsSending p w c x (message.SetRoot local)
@@ -31,7 +31,7 @@ Found p w c x kind.Close = IsSending p w c x message.Close
 -- of a message that is sent next
 found_as : (p : Plan) (w : World) (c : ℕ) (x : Client) (m : Message) → IsSending p w c x m → Found p w c x (sent_as m)
 found_as p w c x (message.Upload id block) h = (id, block, h)
-found_as p w c x (message.Submit local frame) h = (local, frame, h)
+found_as p w c x (message.Submit frame local) h = (local, frame, h)
 found_as p w c x (message.DidNotProduce n) h = (n, h)
 found_as p w c x message.Reclaim h = h
 found_as p w c x (message.SetRoot local) h = (local, h)

@@ -46,7 +46,7 @@ use Rattle.vz_manager.proofs.Following.{sent_answer, client_here}
 pub asked : (p : Plan) (w : World) (v : Served) → Serves p w v → AreAsked p w v.support v.settling.live
 asked p w v h = record { always = h.keeps.always; support = h.support; live = h.settling.live }
 
-pub same_sent : (a b : LocalSurfaceId) (f g : CompositorFrame) → ◌≡◌ {A = Option Message} (Some (Submit a f)) (Some (Submit b g))
+pub same_sent : (a b : LocalSurfaceId) (f g : CompositorFrame) → ◌≡◌ {A = Option Message} (Some (Submit f a)) (Some (Submit g b))
     → (a ≡ b) × (f ≡ g)
 same_sent a b f g e = (cc, cc)
 
@@ -82,14 +82,14 @@ soon_of format frame h =
 
 -- what a client of a plan submits fits a message file
 pub submitted_fits : (p : Plan) (x : Client) (local : LocalSurfaceId) (frame : CompositorFrame) → IsPlan p
-    → next_message p x ≡ Some (Submit local frame) → (fits_local local ≡ true) × (fits_frame 2 frame ≡ true)
+    → next_message p x ≡ Some (Submit frame local) → (fits_local local ≡ true) × (fits_frame 2 frame ≡ true)
 submitted_fits p x local frame is next =
-    let fits = next_fits p x (Submit local frame) is next in
+    let fits = next_fits p x (Submit frame local) is next in
     submit_fits fits.0.format local frame fits.1
 
 -- its deadline is near
 pub submitted_soon : (p : Plan) (x : Client) (local : LocalSurfaceId) (frame : CompositorFrame) → IsPlan p
-    → next_message p x ≡ Some (Submit local frame) → deadline_of frame ≤ GREATEST_DEADLINE
+    → next_message p x ≡ Some (Submit frame local) → deadline_of frame ≤ GREATEST_DEADLINE
 submitted_soon p x local frame is next = soon_of 2 frame (submitted_fits p x local frame is next).1
 
 -- the tick at which it is due is that of its submission
@@ -101,19 +101,19 @@ due_told w x local frame tick due e is = is ∙ ap (λ n. n + deadline_of frame)
 -- Answers
 
 pub submission_sent : (p : Plan) (w : World) (c : ℕ) (x : Client) (local : LocalSurfaceId) (frame : CompositorFrame)
-    → IsSending p w c x (Submit local frame) → answer_to p w (event.Client c) ≡ submit_answer w x local frame
+    → IsSending p w c x (Submit frame local) → answer_to p w (event.Client c) ≡ submit_answer w x local frame
 unfolding message_answer
-submission_sent p w c x local frame is = sent_answer p w c x (Submit local frame) is
+submission_sent p w c x local frame is = sent_answer p w c x (Submit frame local) is
 
 pub submission_refused : (p : Plan) (w : World) (c : ℕ) (x : Client) (local : LocalSurfaceId) (frame : CompositorFrame) (r : Refusal)
-    → IsSending p w c x (Submit local frame) → refusal_in w x local frame ≡ Some r
+    → IsSending p w c x (Submit frame local) → refusal_in w x local frame ≡ Some r
     → answer_to p w (event.Client c) ≡ refused w x r
 unfolding submit_answer
 submission_refused p w c x local frame r is e =
     submission_sent p w c x local frame is ∙ ap (λ o. unless_refused w x o (accepted w x local frame)) e
 
 pub submission_accepted : (p : Plan) (w : World) (c : ℕ) (x : Client) (local : LocalSurfaceId) (frame : CompositorFrame)
-    → IsSending p w c x (Submit local frame) → refusal_in w x local frame ≡ None
+    → IsSending p w c x (Submit frame local) → refusal_in w x local frame ≡ None
     → answer_to p w (event.Client c) ≡ accepted w x local frame
 unfolding submit_answer
 submission_accepted p w c x local frame is e =

@@ -54,7 +54,7 @@ module _ (p : Plan) (w : World) (c : ℕ) (x : Client) (local : LocalSurfaceId) 
   pub number : x.number ≡ c
   number = number_at w c x here
 
-  pub sends : Sends p w c x (Submit local frame)
+  pub sends : Sends p w c x (Submit frame local)
   sends = record { keeps = h.keeps.always; here = here; next = h.allowed.sends.next }
 
   pub asks : AreAsked p w support settling.live

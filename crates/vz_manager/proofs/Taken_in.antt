@@ -65,11 +65,11 @@ module _ (p : Plan) (w : World) (c : ℕ) (x : Client) (local : LocalSurfaceId) 
 
 -- a submission that was taken is the next message again
 pub is_back : (p : Plan) (w : World) (c : ℕ) (local : LocalSurfaceId) (taken frame : CompositorFrame) (old new : Supported)
-    → KeepsAlways w → IsSupport p w old → 1 ≤ c → c ≤ length old.clients → IsNext old c (Submit local taken) → frame ≡ taken
-    → ((x : Client) → Sends p w c x (Submit local frame) → IsSupport p w new) → IsSupport p w new
+    → KeepsAlways w → IsSupport p w old → 1 ≤ c → c ≤ length old.clients → IsNext old c (Submit taken local) → frame ≡ taken
+    → ((x : Client) → Sends p w c x (Submit frame local) → IsSupport p w new) → IsSupport p w new
 is_back p w c local taken frame old new always h some known next same back =
-    let x = sender_of p w old c (Submit local taken) always h some known next in
-    back x.0 (subst (λ g. Sends p w c x.0 (Submit local g)) (sym same) x.1)
+    let x = sender_of p w old c (Submit taken local) always h some known next in
+    back x.0 (subst (λ g. Sends p w c x.0 (Submit g local)) (sym same) x.1)
 
 -- Waiting
 

@@ -13,7 +13,7 @@ use Rattle.vz_manager.specs.declared.kind.Kind.TheVariants as kind
 -- the kind of a message
 abbrev pub sent_as : Message → Kind
 sent_as (message.Upload id block) = kind.Upload
-sent_as (message.Submit local frame) = kind.Submit
+sent_as (message.Submit frame local) = kind.Submit
 sent_as (message.DidNotProduce n) = kind.DidNotProduce
 sent_as message.Reclaim = kind.Reclaim
 sent_as (message.SetRoot local) = kind.SetRoot
@@ -32,7 +32,7 @@ abbrev pub Comes : Supported → ℕ → Kind → Type 0
 Comes v c kind.Nothing = Unit {0}
 Comes v c kind.Closed = (m : Message) × IsNext v c m
 Comes v c kind.Upload = (id : ℕ) × (block : Block) × IsNext v c (message.Upload id block)
-Comes v c kind.Submit = (local : LocalSurfaceId) × (frame : CompositorFrame) × IsNext v c (message.Submit local frame)
+Comes v c kind.Submit = (local : LocalSurfaceId) × (frame : CompositorFrame) × IsNext v c (message.Submit frame local)
 Comes v c kind.DidNotProduce = (n : ℕ) × IsNext v c (message.DidNotProduce n)
 Comes v c kind.Reclaim = IsNext v c message.Reclaim
 Comes v c kind.SetRoot = (local : LocalSurfaceId) × IsNext v c (message.SetRoot local)

@@ -33,7 +33,7 @@ use Rattle.vz_manager.specs.Judging.{refusal_in, deadline_of}
 
 -- the client with this number has not closed, and submits a frame next that is not refused
 pub record IsAllowed (p : Plan) (w : World) (c : ℕ) (x : Client) (local : LocalSurfaceId) (frame : CompositorFrame) : Type 0 where
-  pub sends : IsSending p w c x (Submit local frame)
+  pub sends : IsSending p w c x (Submit frame local)
   pub allowed : refusal_in w x local frame ≡ None
 
 -- a client submits a frame that is not refused, and all parts represent the state between steps

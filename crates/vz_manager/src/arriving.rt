@@ -130,7 +130,7 @@ pub(crate) fn read_submission(
     requires some { 1 ≤ c }
     requires known { c ≤ length support.now.clients }
     requires next { (local : Local) × (frame : Frame)
-        × IsNext support.now c (Submit local frame) }
+        × IsNext support.now c (Submit frame local) }
     requires submits { (p : Plan) × (w : World) × (x : Client) × (local : Local) × (frame : Frame)
         × IsSubmitting p w c x local frame support.now settling.now }
     ensures { (p : Plan) (w : World) (x : Client) (local : Local) (frame : Frame)

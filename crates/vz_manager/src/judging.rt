@@ -25,11 +25,11 @@ use vz_surface_manager::LiveSurfaces;
 pub(crate) fn submission(support: &Support, c: u32) -> (&LocalSurfaceId, &CompositorFrame)
     requires some { 1 ≤ c }
     requires known { c ≤ length support.now.clients }
-    requires next { (local : Local) × (frame : Frame) × IsNext support.now c (Submit local frame) }
-    ensures next { IsNext support.now c (Submit result.0.now result.1.now) }
+    requires next { (local : Local) × (frame : Frame) × IsNext support.now c (Submit frame local) }
+    ensures next { IsNext support.now c (Submit result.1.now result.0.now) }
     ensures sent { (p : Plan) (w : World) (x : Client) (local : Local) (frame : Frame)
         → IsSupport p w support.now → client_at w c ≡ Some x
-        → next_message p x ≡ Some (Submit local frame)
+        → next_message p x ≡ Some (Submit frame local)
         → (result.0.now ≡ local) × (result.1.now ≡ frame) }
 {
     let Some(message) = support.next(c) else {

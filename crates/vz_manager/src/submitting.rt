@@ -50,7 +50,7 @@ fn put_in(
     requires some { 1 ≤ c }
     requires known { c ≤ length support.old.clients }
     requires next { (local : Local) × (frame : Frame)
-        × IsNext support.old c (Submit local frame) }
+        × IsNext support.old c (Submit frame local) }
     requires arrives { (p : Plan) × (w : World) × (x : Client) × (local : Local) × (frame : Frame)
         × IsArriving p w c x local frame sink blocks support.old settling.old }
     ensures accepted { (p : Plan) (w : World) (x : Client) (local : Local) (frame : Frame)
@@ -135,7 +135,7 @@ fn take_in(
     requires some { 1 ≤ c }
     requires known { c ≤ length support.old.clients }
     requires next { (local : Local) × (frame : Frame)
-        × IsNext support.old c (Submit local frame) }
+        × IsNext support.old c (Submit frame local) }
     requires takes { (p : Plan) × (w : World) × (x : Client) × (local : Local) × (frame : Frame)
         × IsTakingIn p w c x local frame coming support.old settling.old }
     requires place { 0 < activated.old.spare }
@@ -181,7 +181,7 @@ impl Parts {
         requires some { 1 ≤ c }
         requires known { c ≤ length self.old.support.clients }
         requires next { (local : Local) × (frame : Frame)
-            × IsNext self.old.support c (Submit local frame) }
+            × IsNext self.old.support c (Submit frame local) }
         requires stands { (p : Plan) × (w : World) × (x : Client) × (local : Local)
             × (frame : Frame) × Serves p w self.old × IsAllowed p w c x local frame }
         ensures step { (p : Plan) (w : World) (x : Client) (local : Local) (frame : Frame)
@@ -227,10 +227,10 @@ impl Parts {
         requires some { 1 ≤ c }
         requires known { c ≤ length self.now.support.clients }
         requires next { (local : Local) × (frame : Frame)
-            × IsNext self.now.support c (Submit local frame) }
+            × IsNext self.now.support c (Submit frame local) }
         requires stands { (p : Plan) × (w : World) × Serves p w self.now }
         ensures { (p : Plan) (w : World) (x : Client) (local : Local) (frame : Frame)
-            → Serves p w self.now → IsSending p w c x (Submit local frame)
+            → Serves p w self.now → IsSending p w c x (Submit frame local)
             → result ≡ refusal_in w x local frame }
     {
         let (local, frame) = submission(&self.support, c);
@@ -244,14 +244,14 @@ impl Parts {
         requires some { 1 ≤ c }
         requires known { c ≤ length self.old.support.clients }
         requires next { (local : Local) × (frame : Frame)
-            × IsNext self.old.support c (Submit local frame) }
+            × IsNext self.old.support c (Submit frame local) }
         requires stands { (p : Plan) × (w : World) × (x : Client) × (local : Local)
-            × (frame : Frame) × Serves p w self.old × IsSending p w c x (Submit local frame) }
+            × (frame : Frame) × Serves p w self.old × IsSending p w c x (Submit frame local) }
         ensures step { (p : Plan) (w : World) (x : Client) (local : Local) (frame : Frame)
-            → Serves p w self.old → IsSending p w c x (Submit local frame)
+            → Serves p w self.old → IsSending p w c x (Submit frame local)
             → IfOk result (λ s. IsStepOf p w (event.Client c) s) }
         ensures serves { (p : Plan) (w : World) (x : Client) (local : Local) (frame : Frame)
-            → Serves p w self.old → IsSending p w c x (Submit local frame)
+            → Serves p w self.old → IsSending p w c x (Submit frame local)
             → OnOk result (Serves p (step_in p w (event.Client c)).world self.new) }
         ensures err { (p : Plan) (w : World) → Serves p w self.old
             → OnErr result (Serves p w self.new) }

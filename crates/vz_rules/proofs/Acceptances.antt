@@ -30,7 +30,7 @@ pub record Accepts (p : Plan) (w : World) (e : Event) (a : Answer) : Type 0 wher
   pub found : client_at w client.number ≡ Some client
   pub event : e ≡ event.Client client.number
   pub client_is : new.sub.client ≡ client.number
-  pub next : next_message p client ≡ Some (Submit new.id.local new.frame)
+  pub next : next_message p client ≡ Some (Submit new.frame new.id.local)
   pub active : frames_of a.world.subs ≡ frames_of w.subs ++ new ∷ []
   pub reply : a.reply ≡ reply.Accepted new.sub.ordinal new.index
 
@@ -46,7 +46,7 @@ frames_push : (xs : List Submission) (s : Submission) → frames_of (xs ++ s ∷
 frames_push [] s = refl
 frames_push (x ∷ xs) s = ap (λ l. x.submitted ∷ l) (frames_push xs s)
 
-accepted_one : (p : Plan) (w : World) (n : ℕ) (c : Client) (local : LocalSurfaceId) (frame : CompositorFrame) → client_at w n ≡ Some c → c.number ≡ n → next_message p c ≡ Some (Submit local frame)
+accepted_one : (p : Plan) (w : World) (n : ℕ) (c : Client) (local : LocalSurfaceId) (frame : CompositorFrame) → client_at w n ≡ Some c → c.number ≡ n → next_message p c ≡ Some (Submit frame local)
     → Accepts p w (event.Client n) (accepted w c local frame)
 unfolding accepted new_submission
 accepted_one p w n c local frame e number next =

@@ -151,7 +151,7 @@ client_answers p w n c =
       stored = λ id block free at. sets (λ y. record y { resources = put_resource id block y.resources }) false (Upload id block) reply.Stored (λ y. refl) (λ y. refl) refl at;
       submitted = λ local frame good at.
           let lent : Client → Client = λ y. record y { resources = map (lend frame.resources) y.resources } in
-          sets (submitting w frame) (frame.metadata.ack == w.tick) (Submit local frame) (accepted w x local frame).reply
+          sets (submitting w frame) (frame.metadata.ack == w.tick) (Submit frame local) (accepted w x local frame).reply
           (λ y. (tick_answers (frame.metadata.ack == w.tick) w.tick (lent y)).0) (λ y. (tick_answers (frame.metadata.ack == w.tick) w.tick (lent y)).1) refl at;
       noted = λ m at. sets (answer_tick w.tick m) (m == w.tick) (DidNotProduce m) reply.Noted (λ y. (tick_answers (m == w.tick) w.tick y).0) (λ y. (tick_answers (m == w.tick) w.tick y).1) refl at;
       reclaimed = λ at. sets reclaim false Reclaim (reply.Reclaimed x.queue) (λ y. refl) (λ y. refl) refl at;

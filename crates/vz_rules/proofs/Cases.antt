@@ -92,7 +92,7 @@ pub record MessageCases (w : World) (c : Client) (Q : Message → Answer → Typ
   pub stored : (id : ℕ) (block : Block) → in_use c.resources id ≡ false
       → Q (Upload id block) (says reply.Stored (taking (λ x. record x { resources = put_resource id block x.resources }) c w))
   pub submitted : (local : LocalSurfaceId) (frame : CompositorFrame) → submit_refusal (last_created w c.number) c.resources local frame ≡ None
-      → Q (Submit local frame) (accepted w c local frame)
+      → Q (Submit frame local) (accepted w c local frame)
   pub noted : (n : ℕ) → Q (DidNotProduce n) (says reply.Noted (taking (answer_tick w.tick n) c w))
   pub reclaimed : Q Reclaim (says (reply.Reclaimed c.queue) (taking reclaim c w))
   pub rooted : (local : LocalSurfaceId) (root : Option SurfaceId) → Q (SetRoot local) (says reply.Rooted (record (taking (λ x. x) c w) { root = root }))
@@ -121,10 +121,10 @@ pub message_cases : (w : World) (c : Client) (Q : Message → Answer → Type 0)
 unfolding message_answer upload_answer submit_answer submit_refusal root_answer hierarchy_answer hierarchy_refusal await_answer
 message_cases w c Q h (Upload id block) =
     by_test (Q (Upload id block)) (in_use c.resources id) _ _ (λ e. h.turned (Upload id block) refusal.InUse refl) (h.stored id block)
-message_cases w c Q h (Submit local frame) =
-    by_refusal w c (Q (Submit local frame)) (submit_refusal (last_created w c.number) c.resources local frame) _
+message_cases w c Q h (Submit frame local) =
+    by_refusal w c (Q (Submit frame local)) (submit_refusal (last_created w c.number) c.resources local frame) _
     (turns_submit (first_broken frame) (list_any (is_unknown c.resources) frame.resources) (violates (last_created w c.number) local) (has_other_size (last_created w c.number) local frame))
-    (h.turned (Submit local frame)) (h.submitted local frame)
+    (h.turned (Submit frame local)) (h.submitted local frame)
 message_cases w c Q h (DidNotProduce n) = h.noted n
 message_cases w c Q h Reclaim = h.reclaimed
 message_cases w c Q h (SetRoot local) =
@@ -176,7 +176,7 @@ pub record FewCases (p : Plan) (w : World) (n : ℕ) (Q : Answer → Type 0) : T
   pub others : (r : Reply) → is_aggregation r ≡ false → is_acceptance r ≡ false → (clients : List Client) (root : Option SurfaceId) (relations : List (FrameSinkId × FrameSinkId))
       → Q (says r (record w { clients = clients; root = root; relations = relations }))
   pub submitted : (c : Client) → client_at w n ≡ Some c → c.number ≡ n → (local : LocalSurfaceId) (frame : CompositorFrame)
-      → submit_refusal (last_created w c.number) c.resources local frame ≡ None → next_message p c ≡ Some (Submit local frame) → Q (accepted w c local frame)
+      → submit_refusal (last_created w c.number) c.resources local frame ≡ None → next_message p c ≡ Some (Submit frame local) → Q (accepted w c local frame)
   pub left : (c : Client) (clients : List Client) → Q (says reply.Left (record w { clients = clients; surfaces = map (mark_of c.number) w.surfaces }))
 
 pub few_cases : (p : Plan) (w : World) (n : ℕ) (Q : Answer → Type 0) → FewCases p w n Q → Q (client_answer p w n)

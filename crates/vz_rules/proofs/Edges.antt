@@ -11,7 +11,7 @@ use Rattle.vz_rules.proofs.Rows.{opened, rect, red_quad, first_local, sized_fram
 
 -- a submission that waits for a sink that never comes, and names no deadline
 abbrev waiting_plan : Plan
-waiting_plan = plan_of (Submit first_local (sized_frame 4 2 (rect 0 0 4 2) (id_at 9 1 1 ∷ []) [] None (red_quad ∷ [])) ∷ [])
+waiting_plan = plan_of (Submit (sized_frame 4 2 (rect 0 0 4 2) (id_at 9 1 1 ∷ []) [] None (red_quad ∷ [])) first_local ∷ [])
 
 -- it becomes active at the fourth begin-frame
 default_deadline : text_of waiting_plan (c1 ∷ begins 4)

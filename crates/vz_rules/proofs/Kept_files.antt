@@ -99,7 +99,7 @@ near : (o : Option ℕ) → fits_optional (λ d. nat_le d 64) o ≡ true → unw
 near None h = omega arith
 near (Some d) h = leb-true d 64 h
 
-submit_near : (format : ℕ) (local : LocalSurfaceId) (frame : CompositorFrame) → fits_message format (Submit local frame) ≡ true
+submit_near : (format : ℕ) (local : LocalSurfaceId) (frame : CompositorFrame) → fits_message format (Submit frame local) ≡ true
     → unwrap_or frame.metadata.deadline 4 ≤ 64
 unfolding fits_message fits_frame
 submit_near format local frame h =
@@ -158,7 +158,7 @@ plans_client p w n is a h =
           let bounds = upload_id fits.0.format id block fits.1 in
           plans_taking p w c (storing id block) (room _ at) (λ x q. record { sink = refl; taken = refl; ids = stored_ids id block x bounds.0 bounds.1 (a.shelves x q).rising }) h;
       submitted = λ local frame good at.
-          let fits = next_fits p c (Submit local frame) is at in
+          let fits = next_fits p c (Submit frame local) is at in
           plans_accepted p w c local frame (room _ at) (submit_near fits.0.format local frame fits.1) h;
       noted = λ k at. plans_taking p w c (answer_tick w.tick k) (room _ at) (λ x q. answered_file (k == w.tick) w.tick x x (same_file x)) h;
       reclaimed = λ at.

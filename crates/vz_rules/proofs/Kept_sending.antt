@@ -93,7 +93,7 @@ sent_client p w n is a h =
           let fits = next_fits p c (Upload id block) is at in
           sent_taking w c _ (λ x q. sends_upload id block x (upload_fits fits.0.format id block fits.1) (h.blocks x q)) h;
       submitted = λ local frame good at.
-          let fits = next_fits p c (Submit local frame) is at in
+          let fits = next_fits p c (Submit frame local) is at in
           let both = submit_fits fits.0.format local frame fits.1 in
           sent_accepted w c local frame (new_whole w c local frame (a.shelves c here).rising (h.blocks c here) both.0 both.1 good) h;
       noted = λ k at. sent_taking w c (answer_tick w.tick k) (λ x q. tick_sends (k == w.tick) w.tick x x (sends_same x x refl refl refl (h.blocks x q))) h;

@@ -51,7 +51,7 @@ unfolding fits_frame
 frame_two format f h =
     last_two _ (list_all (fits_pass format) f.passes) (list_all (fits_pass 2) f.passes) (all_two (fits_pass format) (fits_pass 2) f.passes (pass_two format)) h
 
-pub submit_fits : (format : ℕ) (local : LocalSurfaceId) (frame : CompositorFrame) → fits_message format (Submit local frame) ≡ true
+pub submit_fits : (format : ℕ) (local : LocalSurfaceId) (frame : CompositorFrame) → fits_message format (Submit frame local) ≡ true
     → (fits_local local ≡ true) × (fits_frame 2 frame ≡ true)
 unfolding fits_message
 submit_fits format local frame h = let both = and_parts (fits_local local) (fits_frame format frame) h in (both.0, frame_two format frame both.1)

@@ -79,7 +79,7 @@ pub record IsAcceptance (p : Plan) (h : List Entry) (n : ℕ) (i : FrameData) : 
   pub stands : h ≡ before ++ entry ∷ behind
   pub earlier : count_by accepts before ≡ n
   pub mine : entry.event ≡ event.Client i.sub.client
-  pub in_file : message_at p i.sub.client (length (takes before i.sub.client)) ≡ Some (Submit i.id.local i.frame)
+  pub in_file : message_at p i.sub.client (length (takes before i.sub.client)) ≡ Some (Submit i.frame i.id.local)
   pub reply : entry.reply ≡ reply.Accepted i.sub.ordinal i.index
 
 -- References
@@ -90,7 +90,7 @@ share_of c id r = if r.client == c then count_of id r else 0
 
 -- the message submits a frame that lists this resource
 abbrev pub submits : ℕ → Option Message → Bool
-submits id (Some (Submit local frame)) = list_any (lists id) frame.resources
+submits id (Some (Submit frame local)) = list_any (lists id) frame.resources
 submits id _ = false
 
 -- an entry after a history lends a reference of a client's resource: it accepts a frame of the
@@ -229,7 +229,7 @@ ticks_to n e = is_begin e && (elim e.reply [ reply.Ticked m ↦ m == n | _ ↦ f
 
 -- the message is an accepted submission or a DidNotProduce, and carries this number
 abbrev pub carries : ℕ → Message → Reply → Bool
-carries n (Submit local frame) (reply.Accepted ordinal index) = frame.metadata.ack == n
+carries n (Submit frame local) (reply.Accepted ordinal index) = frame.metadata.ack == n
 carries n (DidNotProduce m) reply.Noted = m == n
 carries n _ _ = false
 

@@ -15,7 +15,7 @@ use Rattle.vz_rules.specs.declared.entry.Refusal.{Refusal}
 use Rattle.vz_state.specs.Fitting.{FitsSome}
 
 -- the frame of a message that fits fits
-pub frame_fits : (m : Message) (local : LocalSurfaceId) (frame : CompositorFrame) → FitsSome m → m ≡ Submit local frame → FitsFile frame
+pub frame_fits : (m : Message) (local : LocalSurfaceId) (frame : CompositorFrame) → FitsSome m → m ≡ Submit frame local → FitsFile frame
 unfolding fits_message
 frame_fits m local frame fits is =
     let format = fits.0 in

@@ -19,16 +19,16 @@ use Rattle.vz_support.proofs.Taking.{two_changes, takes, ticked_seat, here_is, s
 -- Accepted
 
 module _ (p : Plan) (w : World) (c : ℕ) (x : Client) (local : LocalSurfaceId) (frame : CompositorFrame) (before v : Supported)
-    (sends : Sends p w c x (Submit local frame)) (is : IsSupport p w before) (taken : HasTaken c before v) where
+    (sends : Sends p w c x (Submit frame local)) (is : IsSupport p w before) (taken : HasTaken c before v) where
   same_tick : v.tick ≡ before.tick
   same_tick = ap (λ (z : Supported). z.tick) taken.kept
 
   noted : (new : List Sender) → ChangesOne c (answered_by v.tick frame.metadata.ack) v.clients new
       → ChangesOne x.number (λ s. answered_by w.tick frame.metadata.ack (taking_one s)) before.clients new
   noted new changes =
-      noted_at p w before c x (Submit local frame) sends is frame.metadata.ack new
+      noted_at p w before c x (Submit frame local) sends is frame.metadata.ack new
       (two_changes c taking_one (answered_by before.tick frame.metadata.ack) before.clients v.clients new
-      (some_is p w before c x (Submit local frame) sends is) taken.changes
+      (some_is p w before c x (Submit frame local) sends is) taken.changes
       (subst (λ t. ChangesOne c (answered_by t frame.metadata.ack) v.clients new) same_tick changes))
 
   accepts_before : (new : List Sender) → AreSenders p (accepted w x local frame).world new
@@ -42,7 +42,7 @@ module _ (p : Plan) (w : World) (c : ℕ) (x : Client) (local : LocalSurfaceId) 
       subst (λ (z : Supported). IsSupport p (accepted w x local frame).world (record z { clients = new })) (sym taken.kept)
       (accepts_before new
       (follows_accepted p w x local frame before.clients new sends.keeps.clients is.clients
-      (here_is p w before c x (Submit local frame) sends is) (noted new changes)))
+      (here_is p w before c x (Submit frame local) sends is) (noted new changes)))
 
 -- Given back
 
@@ -89,7 +89,7 @@ module _ (p : Plan) (w : World) (c : ℕ) (x : Client) (m : Message) (before v :
 
 -- What is asked
 
-pub same_submission : (a b : LocalSurfaceId) (f g : CompositorFrame) → ◌≡◌ {A = Option Message} (Some (Submit a f)) (Some (Submit b g))
+pub same_submission : (a b : LocalSurfaceId) (f g : CompositorFrame) → ◌≡◌ {A = Option Message} (Some (Submit f a)) (Some (Submit g b))
     → (a ≡ b) × (f ≡ g)
 same_submission a b f g e = (cc, cc)
 

@@ -28,14 +28,14 @@ impl Support {
     pub fn take_submission(&mut self, c: u32) -> (LocalSurfaceId, BoxedFrame)
         requires some { 1 ≤ c }
         requires known { c ≤ length self.old.clients }
-        requires next { (local : Local) × (frame : Frame) × IsNext self.old c (Submit local frame) }
-        ensures message { IsNext self.old c (Submit result.0 result.1) }
+        requires next { (local : Local) × (frame : Frame) × IsNext self.old c (Submit frame local) }
+        ensures message { IsNext self.old c (Submit result.1 result.0) }
         ensures frame { (p : Plan) (w : World) (x : Client) (local : Local) (frame : Frame)
-            → Sends p w c x (Submit local frame) → IsSupport p w self.old
+            → Sends p w c x (Submit frame local) → IsSupport p w self.old
             → (result.0 ≡ local) × (result.1 ≡ frame) }
         ensures taken { HasTaken c self.old self.new }
         ensures refused { (p : Plan) (w : World) (x : Client) (local : Local) (frame : Frame)
-            (r : Refusal) → Sends p w c x (Submit local frame) → IsSupport p w self.old
+            (r : Refusal) → Sends p w c x (Submit frame local) → IsSupport p w self.old
             → IsSupport p (refused w x r).world self.new }
     {
         let Message::Submit { local, frame } = self.clients.take(c) else {
@@ -50,7 +50,7 @@ impl Support {
         requires some { 1 ≤ c }
         requires known { c ≤ length self.old.clients }
         ensures { (p : Plan) (w : World) (x : Client) (local : Local) (frame : Frame)
-            (before : Supported) → Sends p w c x (Submit local frame) → IsSupport p w before
+            (before : Supported) → Sends p w c x (Submit frame local) → IsSupport p w before
             → HasTaken c before self.old → ack ≡ frame.metadata.ack
             → IsSupport p (accepted w x local frame).world self.new }
     {
@@ -64,7 +64,7 @@ impl Support {
         requires known { c ≤ length self.old.clients }
         requires taken { (before : Supported) × HasTaken c before self.old }
         ensures { (p : Plan) (w : World) (x : Client) (before : Supported)
-            → Sends p w c x (Submit local frame) → IsSupport p w before
+            → Sends p w c x (Submit frame local) → IsSupport p w before
             → HasTaken c before self.old → IsSupport p w self.new }
     {
         self.clients.put_back(c, Message::Submit { local, frame });

@@ -19,12 +19,12 @@ accept-requires-clause-stands c =
     )
 
 pub refuse-requires-clause-next : goal.refuse-requires-clause-next
-refuse-requires-clause-next c = (Submit c.requires.next.0 c.requires.next.1, c.requires.next.2)
+refuse-requires-clause-next c = (Submit c.requires.next.1 c.requires.next.0, c.requires.next.2)
 
 pub returns-in-Some-clause-step : goal.returns-in-Some-clause-step
 returns-in-Some-clause-step c p w x local frame h is =
     let broken = sym (c.judge.ensures p w x local frame h is) ∙ c.in-Some.is in
-    c.refuse.ensures.step p w x (Submit local frame) h (record {
+    c.refuse.ensures.step p w x (Submit frame local) h (record {
       here = is.here;
       next = is.next;
       answer = submission_refused p w c.args.c x local frame c.in-Some.refusal is broken;
@@ -33,7 +33,7 @@ returns-in-Some-clause-step c p w x local frame h is =
 pub returns-in-Some-clause-serves : goal.returns-in-Some-clause-serves
 returns-in-Some-clause-serves c p w x local frame h is =
     let broken = sym (c.judge.ensures p w x local frame h is) ∙ c.in-Some.is in
-    c.refuse.ensures.serves p w x (Submit local frame) h (record {
+    c.refuse.ensures.serves p w x (Submit frame local) h (record {
       here = is.here;
       next = is.next;
       answer = submission_refused p w c.args.c x local frame c.in-Some.refusal is broken;

@@ -18,7 +18,7 @@ on_sink k local = record { sink = k; local = local }
 pub submit-requires-clause-fits : goal.submit-requires-clause-fits
 submit-requires-clause-fits c =
     frame_fits c.args.message.now c.in-Submit.local c.as_frame-frame.result.now c.requires.fits
-    (c.in-Submit.is ∙ ap (λ f. Submit c.in-Submit.local f) (sym c.as_frame-frame.ensures))
+    (c.in-Submit.is ∙ ap (λ f. Submit f c.in-Submit.local) (sym c.as_frame-frame.ensures))
 
 pub returns-in-None : goal.returns-in-None
 returns-in-None c = λ x h.
@@ -92,4 +92,4 @@ returns-in_ok-submit-in-Submit c = λ x h.
     ∙ ap (λ (l : List Resource). submit_refusal (last_created w x.number) l local frame) resources))
     (ap (λ (k : FrameSinkId). on_sink k local) (sym (c.sink-sink.ensures ∙ ap (λ (y : Client). y.sink) own)))
     (c.in_ok-blocks-in-Submit.ensures ∙ ap (λ (l : List Resource). blocks_of l frame) resource)
-    ∙ (ap (λ f. message_answer w x (Submit local f)) c.as_frame-frame.ensures ∙ ap (message_answer w x) (sym c.in-Submit.is))
+    ∙ (ap (λ f. message_answer w x (Submit f local)) c.as_frame-frame.ensures ∙ ap (message_answer w x) (sym c.in-Submit.is))
