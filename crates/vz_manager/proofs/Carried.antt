@@ -237,7 +237,7 @@ module _ (p : Plan) (w : World) (c : ℕ) (x : Client) (local : LocalSurfaceId) 
   pub arrived_room : CanFollow coming.new settling (record f { activated = ready })
   arrived_room =
       can_follow coming.listings (length ready.list) coming.new v.settling settling f ready h.room.follows h.within
-      (λ n e. omega (arith, h.room.live.temporary, ap (λ (r : Referring). r.room) h.kept)) refl h.spare
+      (λ n e. omega (arith, h.room.keeps (ap is_some e), ap (λ (r : Referring). r.room) h.kept)) refl h.spare
 
   -- the step is that of the definitions
   pub arrived_step : (s : Step) → s.reply ≡ reply.Accepted a.sub.ordinal a.index
@@ -269,3 +269,31 @@ module _ (p : Plan) (w : World) (c : ℕ) (x : Client) (local : LocalSurfaceId) 
       serves_after p w (event.Client c) all v (record v { support = support; settling = new }) h.serves
       (answer p w c x local frame v.support v.settling submits) refl refl h.taken.kept stands released
       (arrived_lands (outcome_of [] all).world new stands.live.flown (followed_flight all ∙ flight_after w x local frame) out)
+
+-- what was told of each call of an acceptance is enough: the step is that of the definitions, and the parts stand for what it leaves
+pub arrived_ends : (p : Plan) (w : World) (c : ℕ) (x : Client) (local : LocalSurfaceId) (frame : CompositorFrame) (v : Served)
+    (coming : Coming) (f : Following) (a : Accepted) (support : Supported) (settling new : SurfaceManager) (ready : Roomy Sub)
+    (root : Option SurfaceId) (anew : Bool) (s : Step) → Serves p w v → IsAllowed p w c x local frame → IsComing w x local frame coming
+    → HasRoomToSubmit c coming v.settling v.returned f
+    → (IsTakingIn p w c x local frame coming v.support v.settling → IsAcceptedAs w x local frame a)
+    → (IsTakingIn p w c x local frame coming v.support v.settling → HasTakenIn p w x local frame support settling ready.list)
+    → IsWithin coming.listings v.settling settling (length ready.list) → f.activated.spare ≤ ready.spare + length ready.list
+    → settling.live.kept ≡ v.settling.live.kept
+    → (IsSupport p (accepted w x local frame).world support → root ≡ (accepted w x local frame).world.root) → anew ≡ is_some coming.new
+    → s.reply ≡ reply.Accepted a.sub.ordinal a.index
+    → (IsFollowed (accepted w x local frame).world root coming.new anew settling (record f { activated = ready })
+    → (s.effects ≡ (outcome_of [] (accepted w x local frame)).effects)
+    × AreSettling (outcome_of [] (accepted w x local frame)).world None new)
+    → NoneReleased new.live.lent → resources_out new.live.lent ≤ resources_out settling.live.lent
+    → IsStepOf p w (event.Client c) s
+    × Serves p (step_in p w (event.Client c)).world (record v { support = support; settling = new })
+arrived_ends p w c x local frame v coming f a support settling new ready root anew s serves allowed comes room told taken within spare kept
+    of_root creates reply follows released out =
+    let takes = is_taking_in p w c x local frame v coming f serves allowed comes room in
+    let arrived = has_arrived p w c x local frame v coming f a support settling ready serves allowed comes room (told takes) (taken takes)
+    within spare kept in
+    let after = follows (arrived_follows p w c x local frame v coming f a support settling ready arrived root anew (of_root arrived.taken.kept)
+    creates) in (
+      arrived_step p w c x local frame v coming f a support settling ready arrived s reply after.0,
+      arrived_serves p w c x local frame v coming f a support settling ready arrived new after.1 released out,
+    )

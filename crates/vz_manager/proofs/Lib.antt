@@ -12,6 +12,7 @@ pub mod Stepped
 pub mod Rooming
 pub mod Unlost
 pub mod Own_changes
+mod Rested
 pub mod Submits
 pub mod Reading_all
 pub mod Taken_in

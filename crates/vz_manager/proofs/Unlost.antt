@@ -65,7 +65,7 @@ still_by false d a b e f = refl
 
 module _ (w u : World) (r s : Referring) (h : ReachesAlike w u r s) where
   -- what is named now is named still
-  named_alike : naming w ≡ w → naming u ≡ u
+  pub named_alike : naming w ≡ w → naming u ≡ u
   unfolding naming
   named_alike named =
       ap (λ l. record u { surfaces = l })
@@ -114,19 +114,24 @@ none_temporary old new none few =
     let least : length old ≤ 0 = ltb-false 0 (length old) none in
     none_long new (omega (arith, few, least)) ∙ sym (none_long old least)
 
-pub begun_unlost : (p : Plan) (w : World) (r s : Referring) (n : ℕ) → Keeps w → AreKept w None r → AreKept (begin_answer p w).world None s
-    → length s.temporary ≤ length r.temporary → n ≡ length r.temporary → nat_lt 0 n ≡ false → lost_in (naming (begin_answer p w).world) ≡ []
+-- where none is temporary, a begin-frame leaves what reaching goes by
+pub begun_alike : (p : Plan) (w : World) (r s : Referring) (n : ℕ) → AreKept w None r → AreKept (begin_answer p w).world None s
+    → length s.temporary ≤ length r.temporary → n ≡ length r.temporary → nat_lt 0 n ≡ false → ReachesAlike w (begin_answer p w).world r s
 unfolding begin_answer
-begun_unlost p w r s n keeps before after few count none =
-    none_lost w (begin_answer p w).world r s
-    (record {
+begun_alike p w r s n before after few count none =
+    record {
       active = refl;
       surfaces = refl;
       root = refl;
       before = before;
       after = after;
       temporary = none_temporary r.temporary s.temporary (ap (nat_lt 0) (sym count) ∙ none) few;
-    }) keeps
+    }
+
+pub begun_unlost : (p : Plan) (w : World) (r s : Referring) (n : ℕ) → Keeps w → AreKept w None r → AreKept (begin_answer p w).world None s
+    → length s.temporary ≤ length r.temporary → n ≡ length r.temporary → nat_lt 0 n ≡ false → lost_in (naming (begin_answer p w).world) ≡ []
+begun_unlost p w r s n keeps before after few count none =
+    none_lost w (begin_answer p w).world r s (begun_alike p w r s n before after few count none) keeps
 
 -- A submission on a surface that is there
 

@@ -70,6 +70,7 @@ pub record IsComing (w : World) (x : Client) (local : LocalSurfaceId) (frame : C
 pub record HasRoomToSubmit (c : ℕ) (coming : Coming) (settling : SurfaceManager) (returned : Roomy Returned)
     (following : Following) : Type 0 where
   pub live : HasRoomFor c coming.listings coming.references settling.live
+  pub keeps : IsTrue (is_some coming.new) → 0 < settling.live.kept.room
   pub waiting : length coming.lacked.list < settling.waiting.spare
   pub lands : IsTrue (is_some settling.live.flight) → resources_out settling.live.lent + coming.listings ≤ returned.spare
   pub follows : HasRoomAfter coming.listings settling following

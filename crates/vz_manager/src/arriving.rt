@@ -167,13 +167,18 @@ fn ready_to_wait(settling: &mut SurfaceManager, c: u32, coming: &Coming) -> Resu
     requires known { IsLender c settling.old.live.lent }
     ensures live { OnOk result (HasRoomFor c coming.now.listings coming.now.references
         settling.new.live) }
+    ensures keeps { OnOk result (IsTrue (is_some coming.now.new)
+        → 0 < settling.new.live.kept.room) }
     ensures waiting { OnOk result (length coming.now.lacked.list < settling.new.waiting.spare) }
     ensures stands { (w : World) → AreSettling w None settling.old
         → AreSettling w None settling.new }
     ensures same { IsReadier settling.old.live settling.new.live }
     ensures released { NoneReleased settling.old.live.lent → NoneReleased settling.new.live.lent }
 {
-    settling.live.ready(c, coming.listings, coming.references)?;
+    let creates = coming.new.is_some();
+    settling
+        .live
+        .ready(c, coming.listings, coming.references, creates)?;
     settling.waiting.ready(coming.lacked.as_slice().len())
 }
 

@@ -7,31 +7,38 @@ ghost use Rattle.vz_rules.specs.World.{World};
 ghost use Rattle.vz_rules.specs.Step.{step_in};
 ghost use Rattle.vz_manager.specs.Serving.{Serves, IsStepOf};
 
+use crate::outcome::take;
 use crate::parts::Parts;
 use crate::quiet::nothing_follows;
 use std::alloc::Global;
-use std::mem;
 use vz_frame::{List, Room};
 use vz_machine::Step;
 use vz_rules::{Effects, EffectsRoom, Fed, Reply, Returned};
 
-/// The step in which the drawn frame was shown, with the returned resources and the feedback. It
-/// allocates nothing.
-fn shown(alloc: Global, returned: Room<Returned>, fed: Room<Fed>, room: &mut EffectsRoom) -> Step
+/// The step in which the drawn frame was shown, with the returned resources and the feedback,
+/// which are taken out of their lists. It allocates nothing.
+fn shown(
+    alloc: Global,
+    returned: &mut Room<Returned>,
+    fed: &mut Room<Fed>,
+    room: &mut EffectsRoom,
+) -> Step
     requires { room.old ≡ true }
     ensures reply { result.reply ≡ reply.Shown }
     ensures effects { result.effects ≡ record {
       activated = [];
       destroyed = [];
-      returned = returned.list;
-      fed = fed.list;
+      returned = returned.old.list;
+      fed = fed.old.list;
     } }
+    ensures none_returned { returned.new.list ≡ [] }
+    ensures none_fed { fed.new.list ≡ [] }
 {
     let effects = Effects {
         activated: List::new(alloc),
         destroyed: List::new(alloc),
-        returned: returned.into_list(),
-        fed: fed.into_list(),
+        returned: take(alloc, returned),
+        fed: take(alloc, fed),
     };
     Step {
         reply: Reply::Shown,
@@ -53,9 +60,9 @@ impl Parts {
         if !self.settling.live.is_flying() {
             return nothing_follows(Reply::Nothing);
         }
-        let mut returned = mem::replace(&mut self.returned, Room::new(self.alloc));
-        let mut fed = mem::replace(&mut self.fed, Room::new(self.alloc));
-        self.settling.live.land(&mut returned, &mut fed);
+        let returned = &mut self.returned;
+        let fed = &mut self.fed;
+        self.settling.live.land(returned, fed);
         shown(self.alloc, returned, fed, &mut self.landed)
     }
 }

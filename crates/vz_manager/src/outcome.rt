@@ -161,8 +161,9 @@ pub(crate) fn finish(
 }
 
 /// Takes the items out of a list. An empty list keeps its room.
-fn take<T>(alloc: Global, list: &mut Room<T>) -> List<T>
-    ensures { result ≡ list.old.list }
+pub(crate) fn take<T>(alloc: Global, list: &mut Room<T>) -> List<T>
+    ensures items { result ≡ list.old.list }
+    ensures none { list.new.list ≡ [] }
 {
     if list.as_slice().is_empty() {
         return List::new(alloc);

@@ -22,6 +22,7 @@ pub mod Viewed
 pub mod Seen
 pub mod Told_messages
 pub mod Entries
+mod Packed
 pub mod Gathered
 pub mod Counted
 pub mod Rostered

@@ -37,7 +37,6 @@ pub record HasRoomFor (client listings references : ℕ) (v : Live) : Type 0 whe
   pub owed : 0 < v.owed.spare
   pub wanted : v.wanted + (references + 1) ≤ v.kept.spare
   pub counted : v.wanted + (references + 1) < 2 ^ 64
-  pub temporary : 0 < v.kept.room
   pub told : 0 < v.damaged.spare
 
 -- the new surface of a submission, if it is not on the client's last surface

@@ -2,6 +2,7 @@ pub mod Kept_surfaces
 pub mod Told_damage
 pub mod Allowed
 pub mod Flown
+pub mod Packed
 pub mod Rosters
 pub mod Live
 pub mod Ended_subs

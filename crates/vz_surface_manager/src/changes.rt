@@ -1,6 +1,6 @@
 //! Changes of surfaces: a submission is accepted or becomes active, a surface is destroyed, a
 //! tick begins, a client is closed, and what is returned to clients.
-ghost use Rattle.std.specs.Prelude.{◌≡◌, ◌≤◌, ◌+◌, length, OnOk, IfOk, OnErr, IfErr, Option, None, ◌<◌, Some, true, false, ◌++◌, []};
+ghost use Rattle.std.specs.Prelude.{◌≡◌, ◌≤◌, ◌+◌, length, IsTrue, OnOk, IfOk, OnErr, IfErr, Option, None, ◌<◌, Some, true, false, ◌++◌, []};
 ghost use Rattle.std.specs.List.{Contains};
 ghost use Rattle.vz_base.specs.declared.limits.TheConstants.{TEMPORARY_TICKS};
 ghost use Rattle.vz_ids.specs.declared.SurfaceId.{SurfaceId as Id};
@@ -28,6 +28,7 @@ use vz_base::Memory;
 use vz_frame::{BoxedFrame, CompositorFrame, List, Room};
 use vz_ids::{FrameSinkId, LocalSurfaceId, Sub, SurfaceId};
 use vz_pixels::PixelBlock;
+use vz_refs::References;
 use vz_rules::{Fed, Returned};
 use vz_surfaces::Gone;
 
@@ -42,13 +43,35 @@ pub struct Accepted {
     pub replaced: Option<Sub>,
 }
 
+/// Makes room for one more temporary surface, if one is created. The only error is `Memory`, if an
+/// allocation fails. In either case nothing else changes and no room is lost.
+fn ready_to_keep(references: &mut References, creates: bool) -> Result<(), Memory>
+    ensures sets { references.new.sets ≡ references.old.sets }
+    ensures temporary { references.new.temporary ≡ references.old.temporary }
+    ensures spare { references.new.spare ≡ references.old.spare }
+    ensures room { OnOk result (IsTrue creates → 0 < references.new.room) }
+{
+    if !creates {
+        return Ok(());
+    }
+    references.reserve()
+}
+
 impl LiveSurfaces {
     /// Makes room for one more submission of a client with this many listed resources and
-    /// references. The only error is `Memory`, if an allocation fails. In either case nothing
-    /// else changes and no room is lost. Condition: the client exists.
-    pub fn ready(&mut self, client: u32, listings: usize, references: usize) -> Result<(), Memory>
+    /// references, and for a surface, if it creates one. The only error is `Memory`, if an
+    /// allocation fails. In either case nothing else changes and no room is lost. Condition: the
+    /// client exists.
+    pub fn ready(
+        &mut self,
+        client: u32,
+        listings: usize,
+        references: usize,
+        creates: bool,
+    ) -> Result<(), Memory>
         requires known { IsLender client self.old.lent }
         ensures room { OnOk result (HasRoomFor client listings references self.new) }
+        ensures keeps { OnOk result (IsTrue creates → 0 < self.new.kept.room) }
         ensures same { IsReadier self.old self.new }
         ensures live { (w : World) → AreLive w None self.old → AreLive w None self.new }
         ensures released { NoneReleased self.old.lent → NoneReleased self.new.lent }
@@ -63,7 +86,7 @@ impl LiveSurfaces {
         self.lending.ready(client, listings)?;
         self.feeding.ready()?;
         self.references.ready(wanted)?;
-        self.references.reserve()?;
+        ready_to_keep(&mut self.references, creates)?;
         self.damage.ready(1)
     }
 

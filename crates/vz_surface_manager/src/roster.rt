@@ -1,6 +1,6 @@
 //! Submissions with what they list.
-ghost use Rattle.std.specs.Prelude.{◌≡◌, ◌<◌, ◌++◌, ◌∷◌, [], length, slice_get, Some, IsFalse};
-ghost use Rattle.std.specs.Prelude.{IfOk, OnOk, OnErr, MatchOption};
+ghost use Rattle.std.specs.Prelude.{◌≡◌, ◌<◌, ◌≤◌, ◌++◌, ◌∷◌, [], length, slice_get, take, drop, Some, IsFalse};
+ghost use Rattle.std.specs.Prelude.{OnOk, OnErr, MatchOption};
 ghost use Rattle.vz_rules.specs.Closure.{adding};
 ghost use Rattle.vz_rules.specs.World.{has_sub};
 ghost use Rattle.vz_surface_manager.specs.Flown.{subs_of};
@@ -10,32 +10,43 @@ use indexmap::IndexMap;
 use std::alloc::Global;
 use std::marker::Model;
 use vz_base::Memory;
-use vz_frame::{List, Listing};
+use vz_frame::Listing;
 use vz_ids::Sub;
 
+/// The part of one list in which a submission's listings are: from one place up to another.
+#[derive(Clone, Copy)]
+pub(crate) struct Part {
+    pub(crate) from: usize,
+    pub(crate) to: usize,
+}
+
 /// A list of submissions, each with the resources that it lists, in the order in which they were
-/// appended.
+/// appended. All listings are in one list, whose room is kept.
 #[derive(Drop)]
 pub struct Roster {
-    alloc: Global,
-    subs: IndexMap<Sub, List<Listing>>,
+    subs: IndexMap<Sub, Part>,
+    listings: Vec<Listing>,
 }
 
 impl Model for Roster {
-    ghost use Rattle.std.specs.Prelude.{List as Row};
+    ghost use Rattle.std.specs.Prelude.{List as Row, length};
     ghost use Rattle.vz_surface_manager.specs.Flown.{Flown};
+    ghost use Rattle.vz_surface_manager.specs.Packed.{unpacked, AreWithin};
 
     ghost Value = { Row Flown };
 
-    ghost view = { λ r. r.subs.entries };
+    ghost view = { λ r. unpacked r.listings.items r.subs.entries };
+
+    ghost invariant = { λ r. AreWithin (length r.listings.items) r.subs.entries };
 }
 
-/// A copy of listings, in their order.
-fn copy_of(alloc: Global, listings: &[Listing]) -> Result<List<Listing>, Memory>
-    ensures { IfOk result (λ l. l ≡ listings.now) }
+/// The listings in a part of a list. Condition: the part is within the list.
+fn listed(all: &[Listing], part: Part) -> &[Listing]
+    requires within { (part.from ≤ part.to) × (part.to ≤ length all.now) }
+    ensures { result.now ≡ drop part.from (take part.to all.now) }
 {
-    let items: Vec<Listing> = listings.iter().copied().collect(alloc)?;
-    Ok(List::from_vec(items))
+    let before = &all[..part.to];
+    &before[part.from..]
 }
 
 impl Roster {
@@ -44,8 +55,8 @@ impl Roster {
         ensures { result ≡ [] }
     {
         Roster {
-            alloc,
             subs: IndexMap::new(alloc),
+            listings: Vec::new(alloc),
         }
     }
 
@@ -54,6 +65,7 @@ impl Roster {
         ensures { self.new ≡ [] }
     {
         self.subs.clear();
+        self.listings.clear();
     }
 
     /// Whether the roster has a submission.
@@ -84,8 +96,10 @@ impl Roster {
         ensures ok { OnOk result (self.new ≡ self.old ++ (sub, listings.now) ∷ []) }
         ensures err { OnErr result (self.new ≡ self.old) }
     {
-        let copy = copy_of(self.alloc, listings)?;
-        self.subs.insert(sub, copy)?;
+        let from = self.listings.len();
+        self.listings.extend_from_slice(listings)?;
+        let to = self.listings.len();
+        self.subs.insert(sub, Part { from, to })?;
         Ok(())
     }
 
@@ -106,10 +120,10 @@ impl Roster {
         requires { k < length self.now }
         ensures { slice_get self.now k ≡ Some (result.0, result.1.now) }
     {
-        let Some((sub, listings)) = self.subs.get_index(k) else {
+        let Some((sub, part)) = self.subs.get_index(k) else {
             unreachable!()
         };
-        (*sub, listings.as_slice())
+        (*sub, listed(self.listings.as_slice(), *part))
     }
 
     /// How many listings there are in all, or None exactly if that number does not fit a `usize`.

@@ -30,6 +30,7 @@ pub returns-clause-room : goal.returns-clause-room
 returns-clause-room c =
     record {
       live = c.in_ok-ready_to_wait.ensures.live;
+      keeps = c.in_ok-ready_to_wait.ensures.keeps;
       waiting = c.in_ok-ready_to_wait.ensures.waiting;
       lands = c.in_ok-ready_to_land.ensures.room;
       follows = c.in_ok-ready_to_follow.ensures.room;

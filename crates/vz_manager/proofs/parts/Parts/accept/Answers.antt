@@ -3,7 +3,7 @@ use Rattle.vz_rules.specs.Messages.{accepted}
 use Rattle.vz_manager.specs.Serving.{Serves}
 use Rattle.vz_manager.proofs.Submits.{is_submitting}
 use Rattle.vz_manager.proofs.Carried.{on_err, serves_back, is_taking_in, has_arrived}
-use Rattle.vz_manager.proofs.Carried.{arrived_follows, arrived_room, arrived_step, arrived_serves}
+use Rattle.vz_manager.proofs.Carried.{arrived_follows, arrived_room, arrived_ends}
 use Rattle.vz_manager.proofs.parts.Parts.accept.Goals as goal
 
 pub read_submission-requires-clause-submits : goal.read_submission-requires-clause-submits
@@ -78,36 +78,24 @@ pub returns-clause-step : goal.returns-clause-step
 returns-clause-step c p w x local frame old allowed =
     let h = subst (Serves p w) (sym c.self.view_is) old in
     let comes = c.in_ok-coming.ensures p w x local frame (is_submitting p w c.args.c x local frame _ h allowed) in
-    let still = c.make_room.ensures.serves p w _ _ _ _ h in
-    let room = c.in_ok-make_room.ensures.room in
-    let takes = is_taking_in p w c.args.c x local frame _ c.in_ok-coming.coming c.make_room.new.following still allowed comes room in
-    let arrived = has_arrived p w c.args.c x local frame _ c.in_ok-coming.coming c.make_room.new.following c.in_ok-taken.taken
-    c.take_in.new.support c.take_in.new.settling c.take_in.new.activated still allowed comes room
-    (c.in_ok-taken.ensures.accepted p w x local frame takes) (c.in_ok-taken.ensures.taken p w x local frame takes)
-    c.in_ok-taken.ensures.within c.in_ok-taken.ensures.spare c.take_in.ensures.kept in
     let all = accepted w x local frame in
-    let follows = arrived_follows p w c.args.c x local frame _ c.in_ok-coming.coming c.make_room.new.following c.in_ok-taken.taken
-    c.take_in.new.support c.take_in.new.settling c.take_in.new.activated arrived c.root-root.result c.is_some-anew.result
-    (c.root-root.ensures p all.world arrived.taken.kept) c.is_some-anew.ensures in
-    arrived_step p w c.args.c x local frame _ c.in_ok-coming.coming c.make_room.new.following c.in_ok-taken.taken c.take_in.new.support
-    c.take_in.new.settling c.take_in.new.activated arrived c.finish.result c.finish.ensures.reply
-    (c.finish.ensures.effects all.world all.reply follows)
+    (arrived_ends p w c.args.c x local frame _ c.in_ok-coming.coming c.make_room.new.following c.in_ok-taken.taken c.take_in.new.support
+    c.take_in.new.settling c.finish.new.settling c.take_in.new.activated c.root-root.result c.is_some-anew.result c.finish.result
+    (c.make_room.ensures.serves p w _ _ _ _ h) allowed comes c.in_ok-make_room.ensures.room
+    (c.in_ok-taken.ensures.accepted p w x local frame) (c.in_ok-taken.ensures.taken p w x local frame) c.in_ok-taken.ensures.within
+    c.in_ok-taken.ensures.spare c.take_in.ensures.kept (c.root-root.ensures p all.world) c.is_some-anew.ensures c.finish.ensures.reply
+    (λ follows. (c.finish.ensures.effects all.world all.reply follows, c.finish.ensures.stands all.world all.reply follows))
+    c.finish.ensures.released c.finish.ensures.out).0
 
 pub returns-clause-serves : goal.returns-clause-serves
 returns-clause-serves c p w x local frame old allowed =
     let h = subst (Serves p w) (sym c.self.view_is) old in
     let comes = c.in_ok-coming.ensures p w x local frame (is_submitting p w c.args.c x local frame _ h allowed) in
-    let still = c.make_room.ensures.serves p w _ _ _ _ h in
-    let room = c.in_ok-make_room.ensures.room in
-    let takes = is_taking_in p w c.args.c x local frame _ c.in_ok-coming.coming c.make_room.new.following still allowed comes room in
-    let arrived = has_arrived p w c.args.c x local frame _ c.in_ok-coming.coming c.make_room.new.following c.in_ok-taken.taken
-    c.take_in.new.support c.take_in.new.settling c.take_in.new.activated still allowed comes room
-    (c.in_ok-taken.ensures.accepted p w x local frame takes) (c.in_ok-taken.ensures.taken p w x local frame takes)
-    c.in_ok-taken.ensures.within c.in_ok-taken.ensures.spare c.take_in.ensures.kept in
     let all = accepted w x local frame in
-    let follows = arrived_follows p w c.args.c x local frame _ c.in_ok-coming.coming c.make_room.new.following c.in_ok-taken.taken
-    c.take_in.new.support c.take_in.new.settling c.take_in.new.activated arrived c.root-root.result c.is_some-anew.result
-    (c.root-root.ensures p all.world arrived.taken.kept) c.is_some-anew.ensures in
-    arrived_serves p w c.args.c x local frame _ c.in_ok-coming.coming c.make_room.new.following c.in_ok-taken.taken c.take_in.new.support
-    c.take_in.new.settling c.take_in.new.activated arrived c.finish.new.settling
-    (c.finish.ensures.stands all.world all.reply follows) c.finish.ensures.released c.finish.ensures.out
+    (arrived_ends p w c.args.c x local frame _ c.in_ok-coming.coming c.make_room.new.following c.in_ok-taken.taken c.take_in.new.support
+    c.take_in.new.settling c.finish.new.settling c.take_in.new.activated c.root-root.result c.is_some-anew.result c.finish.result
+    (c.make_room.ensures.serves p w _ _ _ _ h) allowed comes c.in_ok-make_room.ensures.room
+    (c.in_ok-taken.ensures.accepted p w x local frame) (c.in_ok-taken.ensures.taken p w x local frame) c.in_ok-taken.ensures.within
+    c.in_ok-taken.ensures.spare c.take_in.ensures.kept (c.root-root.ensures p all.world) c.is_some-anew.ensures c.finish.ensures.reply
+    (λ follows. (c.finish.ensures.effects all.world all.reply follows, c.finish.ensures.stands all.world all.reply follows))
+    c.finish.ensures.released c.finish.ensures.out).1

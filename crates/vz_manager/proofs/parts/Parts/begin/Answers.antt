@@ -5,11 +5,28 @@ use Rattle.vz_surface_manager.proofs.Waits_on.{as_many}
 use Rattle.vz_surfaces.specs.Reading.{existing_count}
 use Rattle.vz_returns.specs.Lent.{resources_out}
 use Rattle.vz_surface_manager.specs.Live.{Live}
-use Rattle.vz_manager.specs.Serving.{Serves}
+use Rattle.vz_manager.specs.Serving.{Served, Serves}
 use Rattle.vz_manager.proofs.Stepped.{followed_answer, serves_followed}
 use Rattle.vz_manager.proofs.Own_changes.{between, begins, begin_sent, begin_leaves, ticked_room, risen_follows, risen_room}
 use Rattle.vz_manager.proofs.Unlost.{begun_unlost}
+use Rattle.vz_manager.proofs.Rested.{both_none}
 use Rattle.vz_manager.proofs.parts.Parts.begin.Goals as goal
+
+pub begin_at_rest-requires : goal.begin_at_rest-requires
+begin_at_rest-requires c =
+    let v = c.self.inside.settling in
+    let none = both_none v.waiting.due v.live.kept.temporary c.is_at_rest.result c.is_at_rest.ensures c.if-is_at_rest.true in
+    record {
+      stands = c.requires.stands;
+      none_waits = sym (ap (λ (o : Served). o.settling.waiting.due) c.self.view_is) ∙ none.0;
+      none_lasts = sym (ap (λ (o : Served). o.settling.live.kept.temporary) c.self.view_is) ∙ none.1;
+    }
+
+pub returns-then-is_at_rest-clause-step : goal.returns-then-is_at_rest-clause-step
+returns-then-is_at_rest-clause-step c p w old = c.begin_at_rest.ensures.step p w old
+
+pub returns-then-is_at_rest-clause-serves : goal.returns-then-is_at_rest-clause-serves
+returns-then-is_at_rest-clause-serves c p w old = c.begin_at_rest.ensures.serves p w old
 
 pub ready_to_follow-requires : goal.ready_to_follow-requires
 ready_to_follow-requires c =

@@ -1,7 +1,4 @@
-use Rattle.std.proofs.Common.{sym, subst, ◌∙◌, ap, arith, refl}
-use Rattle.vz_frame.specs.Roomy.{Roomy}
-use Rattle.vz_rules.specs.declared.entry.Fed.{Fed}
-use Rattle.vz_rules.specs.declared.entry.Returned.{Returned}
+use Rattle.std.proofs.Common.{sym, subst, ◌∙◌, ap, refl}
 use Rattle.vz_rules.specs.Returns.{returned_in, fed_in}
 use Rattle.vz_rules.specs.Ends.{landed}
 use Rattle.vz_surface_manager.specs.Live.{Live}
@@ -32,21 +29,13 @@ pub land-requires-clause-room : goal.land-requires-clause-room
 land-requires-clause-room c =
     let s = c.requires.stands in
     let h = subst (Serves s.0 s.1) (sym c.self.view_is) s.2 in
-    omega (
-      arith,
-      h.lands.returned (sym c.is_flying.ensures ∙ c.if-not-is_flying.false),
-      ap (λ (r : Roomy Returned). r.spare) c.replace-returned.ensures.value,
-    )
+    h.lands.returned (sym c.is_flying.ensures ∙ c.if-not-is_flying.false)
 
 pub land-requires-clause-places : goal.land-requires-clause-places
 land-requires-clause-places c =
     let s = c.requires.stands in
     let h = subst (Serves s.0 s.1) (sym c.self.view_is) s.2 in
-    omega (
-      arith,
-      places_there s.0 s.1 _ h (sym c.is_flying.ensures ∙ c.if-not-is_flying.false),
-      ap (λ (r : Roomy Fed). r.spare) c.replace-fed.ensures.value,
-    )
+    places_there s.0 s.1 _ h (sym c.is_flying.ensures ∙ c.if-not-is_flying.false)
 
 pub shown-requires : goal.shown-requires
 shown-requires c =
@@ -60,16 +49,12 @@ returns-clause-step c p w old =
     let f = flying p w _ h (sym c.is_flying.ensures ∙ c.if-not-is_flying.false) in
     step_landed p w c.shown.result f.0 c.land.new.returned.list c.land.new.fed.list h.keeps f.1.flies c.shown.ensures.reply
     c.shown.ensures.effects
-    (appended _ _ _ (returned_in (landed w)) refl (c.land.ensures.returned w f.0 f.1)
-    (ap (λ (r : Roomy Returned). r.list) c.replace-returned.ensures.value ∙ h.lands.none_returned))
-    (appended _ _ _ (fed_in f.0 (landed w)) refl (c.land.ensures.fed w f.0 f.1)
-    (ap (λ (r : Roomy Fed). r.list) c.replace-fed.ensures.value ∙ h.lands.none_fed))
+    (appended _ _ _ (returned_in (landed w)) refl (c.land.ensures.returned w f.0 f.1) h.lands.none_returned)
+    (appended _ _ _ (fed_in f.0 (landed w)) refl (c.land.ensures.fed w f.0 f.1) h.lands.none_fed)
 
 pub returns-clause-serves : goal.returns-clause-serves
 returns-clause-serves c p w old =
     let h = subst (Serves p w) (sym c.self.view_is) old in
     let f = flying p w _ h (sym c.is_flying.ensures ∙ c.if-not-is_flying.false) in
     serves_landed p w _ f.0 c.land.new.self _ _ c.shown.new.room h f.1.flies (c.land.ensures.live w f.0 f.1)
-    c.land.ensures.released (ap (λ (v : Live). v.flight) c.land.ensures.rest)
-    (ap (λ (r : Roomy Returned). r.list) c.replace-returned.ensures.after ∙ c.new.ensures)
-    (ap (λ (r : Roomy Fed). r.list) c.replace-fed.ensures.after ∙ c.new-2.ensures)
+    c.land.ensures.released (ap (λ (v : Live). v.flight) c.land.ensures.rest) c.shown.ensures.none_returned c.shown.ensures.none_fed
