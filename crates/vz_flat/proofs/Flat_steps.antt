@@ -12,6 +12,7 @@ use Rattle.vz_placement.specs.Limits.{HasRoom, IsPassInReach, IsQuadInReach, coo
 use Rattle.vz_placement.proofs.Rooms.{room_less, room_minus, place_room, drawn_room}
 use Rattle.vz_flat.specs.{declared.op.Op.Op, Parts.seen_flat, Flat.quads_flat, Flat.root_flat, Flat.flat}
 use Rattle.vz_flat.specs.Flattening.{Stand, ranges_of, material_here, quads_here, earlier_of}
+use Rattle.vz_flat.proofs.Wholes.{frame_whole}
 
 -- Room
 
@@ -31,9 +32,17 @@ pub quad_room : (levels n : ℕ) (place inner : Placement) (pass : RenderPass) (
     → HasRoom (room_for levels (n + 1)) place.shift → HasRoom (room_for levels n + coordinates 1) inner.shift
 quad_room levels n place inner pass quad is reach room = grind (arith, nat_tests, place_room, drawn_room levels n place quad room reach)
 
-pub surface_room : (levels : ℕ) (p : Point) (count : ℕ) → 0 < count → count ≤ 16 → (levels ≡ 0 → ⊥)
+count_room : (levels : ℕ) (p : Point) (count : ℕ) → 0 < count → count ≤ 16 → (levels ≡ 0 → ⊥)
     → HasRoom (room_for levels 0) p → HasRoom (room_for (levels - 1) (count - 1 + 1)) p
-surface_room levels p count some few deep room = grind (arith, nat_tests, room_less)
+count_room levels p count some few deep room = grind (arith, nat_tests, room_less)
+
+-- for the last pass of a surface
+pub surface_room : (levels : ℕ) (p : Point) (i : FrameData) (passes : List RenderPass) → IsWhole i → passes ≡ i.frame.passes
+    → (length passes ≡ 0 → ⊥) → (levels ≡ 0 → ⊥) → HasRoom (room_for levels 0) p → HasRoom (room_for (levels - 1) (length passes - 1 + 1)) p
+surface_room levels p i passes fine own some deep room =
+    let same = ap length own in
+    let few = (frame_whole i fine).few in
+    count_room levels p (length passes) (omega (arith, some)) (omega (arith, same, few)) deep room
 
 -- Frames
 

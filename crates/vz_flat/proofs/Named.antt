@@ -1,5 +1,5 @@
 -- What is drawn of passes and tiles, by where their names lead.
-use Rattle.std.proofs.Common.{◌≡◌, ℕ, zero, suc, ◌+◌, ◌<◌, ◌≤◌, Bool, true, false, Option, Some, List, [], ◌∷◌, length, take, reverse, get_or, slice_get, refl, ap, sym, ◌∙◌, arith}
+use Rattle.std.proofs.Common.{◌≡◌, ℕ, zero, suc, ◌+◌, ◌-◌, ◌<◌, ◌≤◌, Bool, true, false, Option, Some, List, [], ◌∷◌, length, take, reverse, get_or, slice_get, refl, ap, sym, ◌∙◌, subst, arith}
 use Rattle.std.proofs.{lemmas.List.reverse-append, lemmas.Grind.take_at_read, lemmas.Option.slice_get-get_or, lemmas.Bool.Decides.nat_tests}
 use Rattle.vz_pixels.specs.Block.{Block}
 use Rattle.vz_frame.specs.{declared.blend.Blend.Blend, declared.frame.DrawQuad.DrawQuad, Frame.names_pass}
@@ -84,12 +84,28 @@ name_before s k at id quad leads_to m is e = grind (arith, nat_tests, place_befo
 
 -- What is known of the pass at a place
 
--- it stands there
-pub pass_there : (i : FrameData) (passes : List RenderPass) (k : ℕ) (p : RenderPass) → passes ≡ i.frame.passes → k < length passes
+-- it stands there, and it is whole
+pub record IsPassAt (i : FrameData) (k : ℕ) (p : RenderPass) : Type 0 where
+  pub there : slice_get i.frame.passes k ≡ Some p
+  pub whole : IsPassWhole i p
+
+pass_there : (i : FrameData) (passes : List RenderPass) (k : ℕ) (p : RenderPass) → passes ≡ i.frame.passes → k < length passes
     → p ≡ get_or passes k p → slice_get i.frame.passes k ≡ Some p
 pass_there i passes k p own h here = ap (λ l. slice_get l k) (sym own) ∙ (slice_get-get_or passes k p h ∙ ap (λ x. Some x) (sym here))
 
--- it is whole
-pub pass_whole : (i : FrameData) (passes : List RenderPass) (k : ℕ) (p : RenderPass) → IsWhole i → passes ≡ i.frame.passes
+pass_whole : (i : FrameData) (passes : List RenderPass) (k : ℕ) (p : RenderPass) → IsWhole i → passes ≡ i.frame.passes
     → k < length passes → p ≡ get_or passes k p → IsPassWhole i p
 pass_whole i passes k p fine own h here = grind (arith, nat_tests, frame_whole i fine)
+
+pub pass_at : (i : FrameData) (passes : List RenderPass) (k : ℕ) (p : RenderPass) → IsWhole i → passes ≡ i.frame.passes
+    → k < length i.frame.passes → p ≡ get_or passes k p → IsPassAt i k p
+pass_at i passes k p fine own h here =
+    let within : k < length passes = subst (λ l. k < length l) (sym own) h in
+    record { there = pass_there i passes k p own within here; whole = pass_whole i passes k p fine own within here }
+
+-- the last of them
+pub last_pass_at : (i : FrameData) (passes : List RenderPass) (p : RenderPass) → IsWhole i → passes ≡ i.frame.passes
+    → (length passes ≡ 0 → ⊥) → p ≡ get_or passes (length passes - 1) p → IsPassAt i (length passes - 1) p
+last_pass_at i passes p fine own some here =
+    let inside : length passes - 1 < length passes = omega (arith, some) in
+    pass_at i passes (length passes - 1) p fine own (subst (λ l. length passes - 1 < length l) own inside) here

@@ -28,9 +28,12 @@ done_next f g step L k d now new all inside was is = grind (arith, nat_tests, le
 pub other_way : (a b : ℕ) → (a == b) ≡ false → (b == a) ≡ false
 other_way a b e = grind (arith, nat_tests, e)
 
-pub once_parts : (L : List Listing) (k : ℕ) (d : Listing) → k < length L → lists_twice (drop k L) ≡ false
+once_parts : (L : List Listing) (k : ℕ) (d : Listing) → k < length L → lists_twice (drop k L) ≡ false
     → (list_any (λ (b : Listing). lists (slice_index_or L k d).id b) (drop (k + 1) L) ≡ false) × (lists_twice (drop (k + 1) L) ≡ false)
 once_parts L k d inside once = or_no _ _ (sym (ap lists_twice (left_next L k d inside)) ∙ once)
+
+pub once_next : (L : List Listing) (k : ℕ) → k < length L → lists_twice (drop k L) ≡ false → lists_twice (drop (k + 1) L) ≡ false
+once_next L k inside once = (once_parts L k (record { id = 0; w = 0; h = 0 }) inside once).1
 
 -- one that is listed later is another one
 pub is_other : (id j : ℕ) (rest : List Listing) → list_any (λ (b : Listing). lists id b) rest ≡ false → Contains (ids_of rest) j
@@ -57,14 +60,32 @@ times_at j id ids t e = count_cons (λ n. n == j) id ids ∙ ap {B = ℕ} (λ (b
 pub suffice_shared : (id : ℕ) (ids : List ℕ) (h : Holding) → Suffice (id ∷ ids) h → Suffice ids (shared id h)
 suffice_shared id ids h s j = grind (arith, nat_tests, times_at j id ids true, alive_shared j id h, times_at j id ids false)
 
--- the countables and the references of what is left
-pub left_countable : (L : List Listing) (k : ℕ) (d : Listing) (h : Holding) → k < length L → AreCountable (ids_of (drop k L)) h
+-- the next of what is left can be counted, and the ones behind it once it is
+left_countable : (L : List Listing) (k : ℕ) (d : Listing) (h : Holding) → k < length L → AreCountable (ids_of (drop k L)) h
     → AreCountable ((slice_index_or L k d).id ∷ ids_of (drop (k + 1) L)) h
 left_countable L k d h inside are = subst (λ l. AreCountable (ids_of l) h) (left_next L k d inside) are
 
-pub left_suffice : (L : List Listing) (k : ℕ) (d : Listing) (h : Holding) → k < length L → Suffice (ids_of (drop k L)) h
+pub next_countable : (L : List Listing) (k : ℕ) (d : Listing) (h : Holding) → k < length L → AreCountable (ids_of (drop k L)) h
+    → IsCountable (slice_index_or L k d).id h
+next_countable L k d h inside are =
+    left_countable L k d h inside are (slice_index_or L k d).id (contains_here (slice_index_or L k d).id (ids_of (drop (k + 1) L)))
+
+pub rest_countable : (g : ℕ → Holding → Holding)
+    → ((id : ℕ) (rest : List Listing) (h : Holding) → list_any (λ (b : Listing). lists id b) rest ≡ false
+    → AreCountable (id ∷ ids_of rest) h → AreCountable (ids_of rest) (g id h))
+    → (L : List Listing) (k : ℕ) (d : Listing) (h new : Holding) → k < length L → lists_twice (drop k L) ≡ false
+    → AreCountable (ids_of (drop k L)) h → new ≡ g (slice_index_or L k d).id h → AreCountable (ids_of (drop (k + 1) L)) new
+rest_countable g counted L k d h new inside once are is =
+    subst (AreCountable (ids_of (drop (k + 1) L))) (sym is)
+    (counted (slice_index_or L k d).id (drop (k + 1) L) h (once_parts L k d inside once).0 (left_countable L k d h inside are))
+
+-- the references suffice for the ones behind the next once it is held
+left_suffice : (L : List Listing) (k : ℕ) (d : Listing) (h : Holding) → k < length L → Suffice (ids_of (drop k L)) h
     → Suffice ((slice_index_or L k d).id ∷ ids_of (drop (k + 1) L)) h
 left_suffice L k d h inside s = subst (λ l. Suffice (ids_of l) h) (left_next L k d inside) s
 
-pub first_countable : (id : ℕ) (ids : List ℕ) (h : Holding) → AreCountable (id ∷ ids) h → IsCountable id h
-first_countable id ids h are = are id (contains_here id ids)
+pub rest_suffice : (L : List Listing) (k : ℕ) (d : Listing) (h new : Holding) → k < length L → Suffice (ids_of (drop k L)) h
+    → new ≡ shared (slice_index_or L k d).id h → Suffice (ids_of (drop (k + 1) L)) new
+rest_suffice L k d h new inside s is =
+    subst (Suffice (ids_of (drop (k + 1) L))) (sym is)
+    (suffice_shared (slice_index_or L k d).id (ids_of (drop (k + 1) L)) h (left_suffice L k d h inside s))

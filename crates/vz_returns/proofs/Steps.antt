@@ -76,6 +76,19 @@ number_test : (client k n m : ℕ) (t : Bool) → client ≡ k + 1 → m ≡ n +
 number_test client k n m true e f g = to_eqb client m (omega (arith, e, f, from_eqb n k g))
 number_test client k n m false e f g = grind (arith, nat_tests, e, f, g)
 
+-- of a client whose references are as before
+counts_stay : (w v : World) (d : Client) (h : Holding) (ids : List ℕ) → ((id : ℕ) → alive_in v d.number id ≡ alive_in w d.number id)
+    → AreCounts w d h ids → AreCounts v d h ids
+counts_stay w v d h ids same counts =
+    record {
+      client = counts.client;
+      rising = counts.rising;
+      some = counts.some;
+      received = counts.received;
+      alive = λ id. omega (arith, counts.alive id, same id);
+      queue = counts.queue;
+    }
+
 -- fewer are alive, and these are released
 pub frees : (w v : World) (items : List Lent) (client k : ℕ) (o new : Lent) (ids : List ℕ) (amount : ℕ → ℕ → ℕ) → client ≡ k + 1
     → slice_get items k ≡ Some o → KeepsClients w.clients
@@ -105,20 +118,9 @@ frees w v items client k o new ids amount number own kept same moved are held mo
             queue = counts.queue;
           });
       other = λ e l counts.
-          record {
-            client = counts.client;
-            rising = counts.rising;
-            some = counts.some;
-            received = counts.received;
-            alive = λ id. omega (
-              arith,
-              counts.alive id,
-              moved d.number id,
-              are.other d.number id
-                  (number_test client k n d.number false number (kept.numbered n d at) e),
-            );
-            queue = counts.queue;
-          };
+          counts_stay w v d l.holding l.released
+          (λ id. omega (arith, moved d.number id, are.other d.number id (number_test client k n d.number false number (kept.numbered n d at) e)))
+          counts;
     })
 
 -- so many were alive
@@ -207,18 +209,7 @@ holds_more w v items client k o new ids amount number own kept same moved are en
             queue = stays.queue ∙ counts.queue;
           }));
       other = λ e l counts.
-          record {
-            client = counts.client;
-            rising = counts.rising;
-            some = counts.some;
-            received = counts.received;
-            alive = λ id. omega (
-              arith,
-              counts.alive id,
-              moved d.number id,
-              are.other d.number id
-                  (number_test client k n d.number false number (kept.numbered n d at) e),
-            );
-            queue = counts.queue;
-          };
+          counts_stay w v d l.holding l.released
+          (λ id. omega (arith, moved d.number id, are.other d.number id (number_test client k n d.number false number (kept.numbered n d at) e)))
+          counts;
     })

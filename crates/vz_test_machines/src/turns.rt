@@ -12,7 +12,7 @@ use vz_base::Memory;
 use vz_machine::Machine;
 use vz_rules::{Event, History, Refusal};
 use vz_slow::PlainMachine;
-use vz_turn::{Brief, Hub, Pass, Told};
+use vz_turn::{Brief, ClientBrief, Hub, Pass, Told};
 
 /// Makes a call for the next message of client 1.
 fn take<M: Machine + Send, R: Wait + AllocGlobal>(
@@ -64,21 +64,21 @@ fn are_told(told: &Result<(Told, Told, Told), Memory>, history: &History) -> boo
     };
     let first = Told {
         place: 1,
-        reply: Brief::Accepted {
+        reply: Brief::Client(ClientBrief::Accepted {
             ordinal: 1,
             index: 1,
-        },
+        }),
     };
     let second = Told {
         place: 2,
-        reply: Brief::Refused(Refusal::SizeMismatch),
+        reply: Brief::Client(ClientBrief::Refused(Refusal::SizeMismatch)),
     };
     let third = Told {
         place: 3,
-        reply: Brief::Accepted {
+        reply: Brief::Client(ClientBrief::Accepted {
             ordinal: 2,
             index: 2,
-        },
+        }),
     };
     *one == first && *two == second && *three == third && history.len() == 3
 }

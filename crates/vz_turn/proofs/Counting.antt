@@ -18,6 +18,7 @@ use Rattle.vz_rules.proofs.{Kept_returns.storing, Kept_few.lists_short}
 use Rattle.vz_rules.proofs.{Kept_first.keeps_world, Kept_planned.plan_world, Kept_sending.messages_world, Kept_small.small_resource}
 use Rattle.vz_turn.specs.Briefs.{brief_in}
 use Rattle.vz_turn.specs.declared.brief.Brief.TheVariants as brief
+use Rattle.vz_turn.specs.declared.brief.ClientBrief.TheVariants as client
 
 -- Sums
 
@@ -99,15 +100,15 @@ short_answer p w event.Draw is a h k = short_by (is_some w.in_flight) (says repl
 short_answer p w event.Done is a h k = short_by (is_some w.in_flight) (says reply.Shown _) (says reply.Nothing w) refl refl
 short_answer p w event.Over is a h k = refl
 
-exact : (returns : List Returned) → nat_lt (length returns) GREATEST_NUMBER ≡ true → brief_in (reply.Reclaimed returns) ≡ brief.Reclaimed (length returns)
-exact returns short = ap (λ (t : Bool). brief.Reclaimed (cond t (length returns) GREATEST_NUMBER)) short
+exact : (returns : List Returned) → nat_lt (length returns) GREATEST_NUMBER ≡ true → brief_in (reply.Reclaimed returns) ≡ brief.Client (client.Reclaimed (length returns))
+exact returns short = ap (λ (t : Bool). brief.Client (client.Reclaimed (cond t (length returns) GREATEST_NUMBER))) short
 
-exact_at : (r : Reply) (returns : List Returned) → is_short r ≡ true → r ≡ reply.Reclaimed returns → brief_in r ≡ brief.Reclaimed (length returns)
+exact_at : (r : Reply) (returns : List Returned) → is_short r ≡ true → r ≡ reply.Reclaimed returns → brief_in r ≡ brief.Client (client.Reclaimed (length returns))
 unfolding is_short
 exact_at r returns short is = ap brief_in is ∙ exact returns (ap is_short (sym is) ∙ short)
 
 -- the brief of a reply has the exact number of its returns
 pub exact_brief : (p : Plan) (h : List Entry) (e : Event) (returns : List Returned) → IsPlan p → (entry_in p (world p h) e).reply ≡ reply.Reclaimed returns
-    → brief_in (entry_in p (world p h) e).reply ≡ brief.Reclaimed (length returns)
+    → brief_in (entry_in p (world p h) e).reply ≡ brief.Client (client.Reclaimed (length returns))
 unfolding entry_in step_in outcome_of
 exact_brief p h e returns is there = exact_at (answer_to p (world p h) e).reply returns (short_answer p (world p h) e is (keeps_world p h is).always (plan_world p h is) (messages_world p h is)) there

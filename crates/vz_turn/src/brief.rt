@@ -7,10 +7,18 @@ use vz_geom::Rect;
 use vz_rules::{Refusal, Reply, Returned};
 
 /// A reply in short: as `Reply`, with the number of returns in place of their list, so that it
-/// takes no memory. Up to `Refused` the variants answer messages of clients; the later ones
-/// answer events of the display.
+/// takes no memory.
 #[derive(Clone, Copy, Debug, PartialEq, Eq)]
 pub enum Brief {
+    /// The answer to a message of a client.
+    Client(ClientBrief),
+    /// The answer to an event of the display.
+    Display(DisplayBrief),
+}
+
+/// An answer to a message of a client, in short.
+#[derive(Clone, Copy, Debug, PartialEq, Eq)]
+pub enum ClientBrief {
     /// The uploaded block is stored.
     Stored,
     /// The submission is accepted.
@@ -37,6 +45,11 @@ pub enum Brief {
     Left,
     /// The message is refused.
     Refused(Refusal),
+}
+
+/// An answer to an event of the display.
+#[derive(Clone, Copy, Debug, PartialEq, Eq)]
+pub enum DisplayBrief {
     /// The tick is now this number.
     Ticked(u32),
     /// A frame is drawn, with this damage of the display in pixels.
@@ -73,28 +86,30 @@ pub(crate) fn brief_of(reply: &Reply) -> Brief
     ensures { result ≡ brief_in reply.now }
 {
     match reply {
-        Reply::Stored => Brief::Stored,
-        Reply::Accepted { ordinal, index } => Brief::Accepted {
+        Reply::Stored => Brief::Client(ClientBrief::Stored),
+        Reply::Accepted { ordinal, index } => Brief::Client(ClientBrief::Accepted {
             ordinal: *ordinal,
             index: *index,
-        },
-        Reply::Noted => Brief::Noted,
-        Reply::Reclaimed(returns) => Brief::Reclaimed(short_count(returns.as_slice())),
-        Reply::Rooted => Brief::Rooted,
-        Reply::Joined => Brief::Joined,
-        Reply::Began(tick) => Brief::Began(*tick),
-        Reply::Over => Brief::Over,
-        Reply::Left => Brief::Left,
-        Reply::Refused(refusal) => Brief::Refused(*refusal),
-        Reply::Ticked(tick) => Brief::Ticked(*tick),
-        Reply::Drawn(damage) => Brief::Drawn(*damage),
-        Reply::Unchanged => Brief::Unchanged,
-        Reply::NoRoot => Brief::NoRoot,
-        Reply::TooMuch => Brief::TooMuch,
-        Reply::Busy => Brief::Busy,
-        Reply::Shown => Brief::Shown,
-        Reply::Nothing => Brief::Nothing,
-        Reply::Ended => Brief::Ended,
+        }),
+        Reply::Noted => Brief::Client(ClientBrief::Noted),
+        Reply::Reclaimed(returns) => {
+            Brief::Client(ClientBrief::Reclaimed(short_count(returns.as_slice())))
+        }
+        Reply::Rooted => Brief::Client(ClientBrief::Rooted),
+        Reply::Joined => Brief::Client(ClientBrief::Joined),
+        Reply::Began(tick) => Brief::Client(ClientBrief::Began(*tick)),
+        Reply::Over => Brief::Client(ClientBrief::Over),
+        Reply::Left => Brief::Client(ClientBrief::Left),
+        Reply::Refused(refusal) => Brief::Client(ClientBrief::Refused(*refusal)),
+        Reply::Ticked(tick) => Brief::Display(DisplayBrief::Ticked(*tick)),
+        Reply::Drawn(damage) => Brief::Display(DisplayBrief::Drawn(*damage)),
+        Reply::Unchanged => Brief::Display(DisplayBrief::Unchanged),
+        Reply::NoRoot => Brief::Display(DisplayBrief::NoRoot),
+        Reply::TooMuch => Brief::Display(DisplayBrief::TooMuch),
+        Reply::Busy => Brief::Display(DisplayBrief::Busy),
+        Reply::Shown => Brief::Display(DisplayBrief::Shown),
+        Reply::Nothing => Brief::Display(DisplayBrief::Nothing),
+        Reply::Ended => Brief::Display(DisplayBrief::Ended),
     }
 }
 

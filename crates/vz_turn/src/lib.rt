@@ -20,7 +20,7 @@ mod pass;
 mod register;
 mod step;
 
-pub use brief::{Brief, Told};
+pub use brief::{Brief, ClientBrief, DisplayBrief, Told};
 pub use hub::Hub;
 pub use pass::Pass;
 pub use register::Register;

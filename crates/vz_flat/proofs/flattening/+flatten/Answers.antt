@@ -1,27 +1,24 @@
-use Rattle.std.proofs.Common.{rules, ◌<◌, ◌-◌, length, slice_get, ap, sym, refl, ◌∙◌, subst, arith, ◌++◌, append-nil}
+use Rattle.std.proofs.Common.{rules, ◌<◌, ◌-◌, length, slice_get, ap, sym, refl, ◌∙◌, arith, ◌++◌, append-nil}
 use Rattle.std.proofs.lemmas.Option.{slice_get_read, slice_get_within}
 use Rattle.vz_surfaces.specs.{Names.block_at, Reading.seen_frames, declared.held.Held.Held}
 use Rattle.vz_walk.specs.Walking.{ids}
 use Rattle.vz_flat.specs.Flattening.{Stand, earlier_of, passes_in, ranges_of, group_here, group_at, group_in}
-use Rattle.vz_flat.proofs.Wholes.{frame_whole}
-use Rattle.vz_flat.proofs.Named.{tile_drawn, name_drawn, name_before, pass_there, pass_whole}
+use Rattle.vz_flat.proofs.Named.{tile_drawn, name_drawn, name_before, pass_at, last_pass_at}
 use Rattle.vz_flat.proofs.Flat_steps.{group_room, name_room, no_passes, quad_room, surface_room, seen_whole, none_yet, one_more, surface_is}
 use Rattle.vz_flat.proofs.flattening.+flatten.Goals as goal
 
 pub Flattener::named-inside-inner-requires-clause-pass : goal.Flattener::named-inside-inner-requires-clause-pass
 Flattener::named-inside-inner-requires-clause-pass t c =
-    let own = c.passes.ensures.own in
-    let within : c.args.k < length c.passes.result.now = subst (λ l. c.args.k < length l) (sym own) c.requires.there in
-    let fine = c.passes.ensures.whole in
-    (pass_whole c.args.self.now.seen c.passes.result.now c.args.k c.index-passes-k.result fine own within c.index-passes-k.is).reach
+    let pass = pass_at c.args.self.now.seen c.passes.result.now c.args.k c.index-passes-k.result c.passes.ensures.whole c.passes.ensures.own c.requires.there
+    c.index-passes-k.is in
+    pass.whole.reach
 
 pub Flattener::named-group-requires : goal.Flattener::named-group-requires
 Flattener::named-group-requires t c =
-    let own = c.passes.ensures.own in
-    let within : c.args.k < length c.passes.result.now = subst (λ l. c.args.k < length l) (sym own) c.requires.there in
-    let fine = c.passes.ensures.whole in
-    let whole = pass_whole c.args.self.now.seen c.passes.result.now c.args.k c.index-passes-k.result fine own within c.index-passes-k.is in
-    let there = pass_there c.args.self.now.seen c.passes.result.now c.args.k c.index-passes-k.result own within c.index-passes-k.is in
+    let pass = pass_at c.args.self.now.seen c.passes.result.now c.args.k c.index-passes-k.result c.passes.ensures.whole c.passes.ensures.own c.requires.there
+    c.index-passes-k.is in
+    let there = pass.there in
+    let whole = pass.whole in
     let room = group_room c.args.self.now.levels c.args.place.now c.inside-inner.result c.args.k c.index-passes-k.result whole.reach c.inside-inner.ensures
     c.requires.room in
     search rules
@@ -29,13 +26,12 @@ Flattener::named-group-requires t c =
 pub Flattener::named-returns : goal.Flattener::named-returns
 Flattener::named-returns t c =
     let s = c.args.self.now in
-    let own = c.passes.ensures.own in
-    let within : c.args.k < length c.passes.result.now = subst (λ l. c.args.k < length l) (sym own) c.requires.there in
-    let there = pass_there s.seen c.passes.result.now c.args.k c.index-passes-k.result own within c.index-passes-k.is in
+    let pass = pass_at c.args.self.now.seen c.passes.result.now c.args.k c.index-passes-k.result c.passes.ensures.whole c.passes.ensures.own c.requires.there
+    c.index-passes-k.is in
     c.in_ok-group.ensures
     ∙ ap (λ l. c.args.ops.now.items ++ l)
     (ap (group_here s (earlier_of s c.args.k) c.index-passes-k.result c.args.mode c.args.opacity) c.inside-inner.ensures
-    ∙ ap (group_in s c.args.k c.args.mode c.args.opacity c.args.place.now) (sym there))
+    ∙ ap (group_in s c.args.k c.args.mode c.args.opacity c.args.place.now) (sym pass.there))
 
 pub Flattener::pass-loop-n-init : goal.Flattener::pass-loop-n-init
 Flattener::pass-loop-n-init t c =
@@ -112,17 +108,12 @@ Flattener::range-shown-requires t c =
 
 pub surface-pass-requires : goal.surface-pass-requires
 surface-pass-requires t c =
-    let i = c.args.seen.now in
-    let own = c.passes-passes.ensures.own in
-    let some : 0 < length c.passes-passes.result.now = omega (arith, c.if-count-eq0.false) in
-    let last : length c.passes-passes.result.now - 1 < length c.passes-passes.result.now = omega (arith, some) in
-    let there = pass_there i c.passes-passes.result.now (length c.passes-passes.result.now - 1) c.index-passes-last.result own last c.index-passes-last.is in
-    let whole = pass_whole i c.passes-passes.result.now (length c.passes-passes.result.now - 1) c.index-passes-last.result c.requires.whole own last
+    let root = last_pass_at c.args.seen.now c.passes-passes.result.now c.index-passes-last.result c.requires.whole c.passes-passes.ensures.own c.if-count-eq0.false
     c.index-passes-last.is in
-    let few = ap length own in
-    let most = (frame_whole i c.requires.whole).few in
-    let room = surface_room c.args.levels c.args.place.now.shift (length c.passes-passes.result.now) some (omega (arith, few, most)) c.if-levels-eq0.false
-    c.requires.room in
+    let there = root.there in
+    let whole = root.whole in
+    let room = surface_room c.args.levels c.args.place.now.shift c.args.seen.now c.passes-passes.result.now c.requires.whole c.passes-passes.ensures.own c.if-count-eq0.false
+    c.if-levels-eq0.false c.requires.room in
     search rules
 
 pub surface-returns-then-count-eq0 : goal.surface-returns-then-count-eq0

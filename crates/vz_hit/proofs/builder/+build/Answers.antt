@@ -11,8 +11,7 @@ use Rattle.vz_surfaces.specs.Reading.{seen_frames}
 use Rattle.vz_placement.specs.Limits.{HasRoom, coordinates, room_for}
 use Rattle.vz_walk.specs.Walking.{ids}
 use Rattle.vz_placement.proofs.Rooms.{room_less}
-use Rattle.vz_flat.proofs.Wholes.{frame_whole}
-use Rattle.vz_flat.proofs.Named.{pass_there, pass_whole}
+use Rattle.vz_flat.proofs.Named.{pass_at, last_pass_at}
 use Rattle.vz_flat.proofs.Flat_steps.{name_room, quad_room, surface_room, seen_whole}
 use Rattle.vz_hit.specs.Hitting.{Stand, in_window, quads_of, material_of, entered}
 use Rattle.vz_hit.proofs.Adding.{adds_none, adds_then, adds_as, leaves_all, leaves_less, leaves_none}
@@ -41,17 +40,12 @@ surface-shift_back-requires t c = room_less (room_for c.args.levels 0) 0 c.args.
 
 pub surface-pass-requires : goal.surface-pass-requires
 surface-pass-requires t c =
-    let i = c.args.seen.now in
-    let own = c.passes-passes.ensures.own in
-    let some : 0 < length c.passes-passes.result.now = omega (arith, c.if-count-eq0.false) in
-    let last : length c.passes-passes.result.now - 1 < length c.passes-passes.result.now = omega (arith, some) in
-    let there = pass_there i c.passes-passes.result.now (length c.passes-passes.result.now - 1) c.index-passes-last.result own last c.index-passes-last.is in
-    let whole = pass_whole i c.passes-passes.result.now (length c.passes-passes.result.now - 1) c.index-passes-last.result c.requires.whole own last
+    let root = last_pass_at c.args.seen.now c.passes-passes.result.now c.index-passes-last.result c.requires.whole c.passes-passes.ensures.own c.if-count-eq0.false
     c.index-passes-last.is in
-    let few = ap length own in
-    let most = (frame_whole i c.requires.whole).few in
-    let room = surface_room c.args.levels c.args.place.now.shift (length c.passes-passes.result.now) some (omega (arith, few, most)) c.if-levels-eq0.false
-    c.requires.room in
+    let there = root.there in
+    let whole = root.whole in
+    let room = surface_room c.args.levels c.args.place.now.shift c.args.seen.now c.passes-passes.result.now c.requires.whole c.passes-passes.ensures.own c.if-count-eq0.false
+    c.if-levels-eq0.false c.requires.room in
     search rules
 
 pub surface-returns : goal.surface-returns
@@ -161,29 +155,26 @@ Builder::material-returns-in_ok-named-in-Some t c =
 
 pub Builder::named-group_place-inner-requires-clause-pass : goal.Builder::named-group_place-inner-requires-clause-pass
 Builder::named-group_place-inner-requires-clause-pass t c =
-    let own = c.passes.ensures.own in
-    let within : c.args.k < length c.passes.result.now = subst (λ l. c.args.k < length l) (sym own) c.requires.there in
-    let fine = c.passes.ensures.whole in
-    (pass_whole c.args.self.now.seen c.passes.result.now c.args.k c.index-passes-k.result fine own within c.index-passes-k.is).reach
+    let pass = pass_at c.args.self.now.seen c.passes.result.now c.args.k c.index-passes-k.result c.passes.ensures.whole c.passes.ensures.own c.requires.there
+    c.index-passes-k.is in
+    pass.whole.reach
 
 pub Builder::named-returns-then-is_empty : goal.Builder::named-returns-then-is_empty
 Builder::named-returns-then-is_empty t c =
     let s = c.args.self.now in
-    let own = c.passes.ensures.own in
-    let within : c.args.k < length c.passes.result.now = subst (λ l. c.args.k < length l) (sym own) c.requires.there in
-    let there = pass_there s.seen c.passes.result.now c.args.k c.index-passes-k.result own within c.index-passes-k.is in
+    let pass = pass_at c.args.self.now.seen c.passes.result.now c.args.k c.index-passes-k.result c.passes.ensures.whole c.passes.ensures.own c.requires.there
+    c.index-passes-k.is in
     let empty = sym (ap is_empty_rect c.window.ensures) ∙ (sym c.is_empty.ensures.value ∙ c.if-is_empty.true) in
     adds_none _ _
-    (λ p. sym (group_is s c.args.k c.index-passes-k.result c.args.place.now c.group_place-inner.result c.group_place-inner.ensures there p)
+    (λ p. sym (group_is s c.args.k c.index-passes-k.result c.args.place.now c.group_place-inner.result c.group_place-inner.ensures pass.there p)
     ∙ nothing_in c.group_place-inner.result.window (quads_of s c.args.k c.index-passes-k.result c.index-passes-k.result.quads c.group_place-inner.result.shift) empty p)
 
 pub Builder::named-pass-requires : goal.Builder::named-pass-requires
 Builder::named-pass-requires t c =
-    let own = c.passes.ensures.own in
-    let within : c.args.k < length c.passes.result.now = subst (λ l. c.args.k < length l) (sym own) c.requires.there in
-    let fine = c.passes.ensures.whole in
-    let whole = pass_whole c.args.self.now.seen c.passes.result.now c.args.k c.index-passes-k.result fine own within c.index-passes-k.is in
-    let there = pass_there c.args.self.now.seen c.passes.result.now c.args.k c.index-passes-k.result own within c.index-passes-k.is in
+    let pass = pass_at c.args.self.now.seen c.passes.result.now c.args.k c.index-passes-k.result c.passes.ensures.whole c.passes.ensures.own c.requires.there
+    c.index-passes-k.is in
+    let there = pass.there in
+    let whole = pass.whole in
     let room = named_room c.args.self.now.levels c.args.place.now c.group_place-inner.result c.args.k c.index-passes-k.result whole.reach c.group_place-inner.ensures
     c.requires.room in
     search rules
@@ -191,11 +182,10 @@ Builder::named-pass-requires t c =
 pub Builder::named-returns : goal.Builder::named-returns
 Builder::named-returns t c =
     let s = c.args.self.now in
-    let own = c.passes.ensures.own in
-    let within : c.args.k < length c.passes.result.now = subst (λ l. c.args.k < length l) (sym own) c.requires.there in
-    let there = pass_there s.seen c.passes.result.now c.args.k c.index-passes-k.result own within c.index-passes-k.is in
+    let pass = pass_at c.args.self.now.seen c.passes.result.now c.args.k c.index-passes-k.result c.passes.ensures.whole c.passes.ensures.own c.requires.there
+    c.index-passes-k.is in
     adds_as _ _ _ _
-    (group_is s c.args.k c.index-passes-k.result c.args.place.now c.group_place-inner.result c.group_place-inner.ensures there)
+    (group_is s c.args.k c.index-passes-k.result c.args.place.now c.group_place-inner.result c.group_place-inner.ensures pass.there)
     c.in_ok-pass.ensures
 
 -- A range

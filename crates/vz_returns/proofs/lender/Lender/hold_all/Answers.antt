@@ -1,33 +1,24 @@
-use Rattle.std.proofs.Common.{sym, subst, refl, ◌∙◌, ◌+◌, drop, arith}
-use Rattle.vz_returns.specs.{Held.shared, Lent.AreCountable, Lent.Suffice, Lent.shared_all, Listed.ids_of}
-use Rattle.vz_returns.proofs.Listings.{done_next, once_parts, countable_shared, suffice_shared, left_suffice, left_countable, first_countable}
+use Rattle.std.proofs.Common.{refl, ◌∙◌, arith}
+use Rattle.vz_returns.specs.{Held.shared, Lent.shared_all}
+use Rattle.vz_returns.proofs.Listings.{done_next, once_next, countable_shared, next_countable, rest_countable, rest_suffice}
 use Rattle.vz_returns.proofs.lender.Lender.hold_all.Goals as goal
 
 pub hold-requires-clause-countable : goal.hold-requires-clause-countable
-hold-requires-clause-countable c =
-    let L = c.args.listings.now in
-    let k = c.loop-listing.listing-index in
-    let inside = c.loop-listing-test.true in
-    first_countable _ (ids_of (drop (k + 1) L)) c.loop-listing.self.holding
-    (left_countable L k _ c.loop-listing.self.holding inside c.loop-listing.invariant.4)
+hold-requires-clause-countable c = next_countable c.args.listings.now c.loop-listing.listing-index _ _ c.loop-listing-test.true c.loop-listing.invariant.4
 
 pub loop-listing-preserved : goal.loop-listing-preserved
 loop-listing-preserved c =
     let L = c.args.listings.now in
     let k = c.loop-listing.listing-index in
-    let h = c.loop-listing.self.holding in
     let i = c.loop-listing.invariant in
     let inside = c.loop-listing-test.true in
-    let once = once_parts L k (record { id = 0; w = 0; h = 0 }) inside i.3 in
     let e = c.hold.ensures in (
-      done_next shared_all shared (λ id ids s. refl) L k _ h _ _ inside i.0 e.holding,
+      done_next shared_all shared (λ id ids s. refl) L k _ _ _ _ inside i.0 e.holding,
       e.released ∙ i.1,
       omega (arith, i.2, e.places),
-      once.1,
-      subst (AreCountable (ids_of (drop (k + 1) L))) (sym e.holding)
-          (countable_shared _ (drop (k + 1) L) h once.0 (left_countable L k _ h inside i.4)),
+      once_next L k inside i.3,
+      rest_countable shared countable_shared L k _ _ _ inside i.3 i.4 e.holding,
       i.5,
       omega (arith, i.6, e.spare),
-      subst (Suffice (ids_of (drop (k + 1) L))) (sym e.holding)
-          (suffice_shared _ (ids_of (drop (k + 1) L)) h (left_suffice L k _ h inside i.7)),
+      rest_suffice L k _ _ _ inside i.7 e.holding,
     )
