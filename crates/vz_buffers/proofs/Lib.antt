@@ -1,4 +1,5 @@
 mod Places
 pub mod Banding
+mod Filling
 pub mod Turning
 pub mod Taking

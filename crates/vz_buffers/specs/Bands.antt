@@ -1,9 +1,12 @@
 -- Rows that painters draw, and pixels with these rows put into them.
-use Rattle.std.specs.Prelude.{◌≡◌, ℕ, zero, suc, ◌+◌, ◌*◌, ◌≤◌, ◌<◌, List, length}
+use Rattle.std.specs.Prelude.{◌≡◌, ℕ, zero, suc, ◌+◌, ◌*◌, ◌≤◌, ◌<◌, ℤ, pos, nat_abs, ◌+ℤ◌, ◌≤ℤ◌, List, length}
 use Rattle.std.specs.List.{All}
 use Rattle.vz_base.specs.declared.limits.TheConstants.{GREATEST_DISPLAY_SIDE}
+use Rattle.vz_geom.specs.declared.Size.{Size}
+use Rattle.vz_geom.specs.Rectangle.{Rectangle}
 use Rattle.vz_pixels.specs.Colour.{Colour}
-use Rattle.vz_buffers.specs.Canvas.{span_put}
+use Rattle.vz_buffers.specs.declared.bands.Place.{Place}
+use Rattle.vz_buffers.specs.Canvas.{Canvas, span_put, pixel_place}
 
 -- rows of colours: how many there are, and each by its number
 pub record Strip : Type 0 where
@@ -42,3 +45,32 @@ pub record MayPaint {P : Type 0} (able : P → Type 0) (strip : P → Strip) (wi
 abbrev pub ArePainted : {P : Type 0} → (P → Strip) → ℕ → ℕ → ℕ → ℕ → List P → List Colour → List Colour → Type 0
 ArePainted strip width left from count painters before after =
     (s : Strip) → All (λ p. strip p ≡ s) painters → after ≡ rows_put width left (rows_from from s.row) count before
+
+-- painters may paint so many rows of an area into the pixels of a display
+pub record MayFill {P : Type 0} (able : P → Type 0) (strip : P → Strip) (place : Place) (count : ℕ) (painters : List P) (pixels : List Colour) : Type 0 where
+  pub some : 0 < length painters
+  pub ready : ArePainters able strip place.width place.left place.wide count painters
+  pub small : place.width ≤ GREATEST_DISPLAY_SIDE
+  pub few : place.top + count ≤ GREATEST_DISPLAY_SIDE
+  pub inside : (place.top + count) * place.width ≤ length pixels
+
+-- these rows of the area were painted
+abbrev pub IsFilled : {P : Type 0} → (P → Strip) → Place → ℕ → List P → List Colour → List Colour → Type 0
+IsFilled strip place count painters before after =
+    (s : Strip) → All (λ p. strip p ≡ s) painters → after ≡ rows_put place.width (place.top * place.width + place.left) s.row count before
+
+-- painters may put the rows of an area into a buffer: the area is not empty and inside, there is a
+-- painter, each can draw, and all draw the same rows, which are as many and as wide as the area's
+pub record MayPut {P : Type 0} (able : P → Type 0) (strip : P → Strip) (size : Size) (area : Rectangle) (painters : List P) : Type 0 where
+  pub left : pos 0 ≤ℤ area.x
+  pub top : pos 0 ≤ℤ area.y
+  pub bottom : (area.y +ℤ area.h) ≤ℤ size.h
+  pub wide : pos 1 ≤ℤ area.w
+  pub high : pos 1 ≤ℤ area.h
+  pub some : 0 < length painters
+  pub ready : ArePainters able strip (nat_abs size.w) (nat_abs area.x) (nat_abs area.w) (nat_abs area.h) painters
+
+-- the rows that the painters draw were put into the area
+abbrev pub ArePut : {P : Type 0} → (P → Strip) → Canvas → Rectangle → List P → List Colour → Type 0
+ArePut strip c area painters after =
+    (s : Strip) → All (λ p. strip p ≡ s) painters → after ≡ rows_put (nat_abs c.size.w) (pixel_place c.size area.x area.y) s.row (nat_abs area.h) c.pixels

@@ -1,12 +1,10 @@
 //! Painting rows of a buffer in bands, which the threads that paint take one by one.
-ghost use Rattle.std.specs.Prelude.{◌≡◌, ◌+◌, ◌*◌, ◌≤◌, ◌<◌, ◌+ℤ◌, ◌≤ℤ◌, pos, nat_abs, List, length};
-ghost use Rattle.std.specs.List.{All};
+ghost use Rattle.std.specs.Prelude.{◌≡◌, ◌+◌, ◌*◌, ◌≤◌, ◌<◌, ◌≤ℤ◌, pos, nat_abs, length};
 ghost use Rattle.vz_base.specs.declared.limits.TheConstants.{GREATEST_DISPLAY_SIDE};
 ghost use Rattle.vz_geom.specs.Display.{IsDisplaySize};
-ghost use Rattle.vz_pixels.specs.Colour.{Colour};
-ghost use Rattle.vz_buffers.specs.Bands.{Strip, FitsIn, ArePainters, MayPaint, ArePainted, rows_put, rows_from};
+ghost use Rattle.vz_buffers.specs.Bands.{Strip, FitsIn, MayPaint, ArePainted, MayFill, IsFilled, rows_put, rows_from};
 
-use crate::early::paint_job;
+use crate::holding::paint_job;
 use std::marker::Brand;
 use std::thread::Threads;
 use vz_geom::{Rect, Size};
@@ -197,15 +195,8 @@ pub(crate) fn paint_within<P: RowPainter + Send, R: Threads + Sync>(
     painters: &mut [P],
     pixels: &mut [Pixel],
 )
-    requires some { 0 < length painters.old }
-    requires able { ArePainters P.able P.strip place.width place.left place.wide count
-        painters.old }
-    requires small { place.width ≤ GREATEST_DISPLAY_SIDE }
-    requires few { (place.top + count) ≤ GREATEST_DISPLAY_SIDE }
-    requires inside { ((place.top + count) * place.width) ≤ length pixels.old }
-    ensures painted { (s : Strip) → All (λ p. P.strip p ≡ s) painters.old
-        → pixels.new ≡ rows_put place.width (place.top * place.width + place.left)
-        s.row count pixels.old }
+    requires { MayFill P.able P.strip place count painters.old pixels.old }
+    ensures painted { IsFilled P.strip place count painters.old pixels.old pixels.new }
     ensures long { length pixels.new ≡ length pixels.old }
 {
     let (_, below) = pixels.split_at_mut(pixels_in(place.width, place.top));
@@ -231,15 +222,8 @@ pub(crate) fn paint_alone<P: RowPainter>(
     painters: &mut [P],
     pixels: &mut [Pixel],
 )
-    requires some { 0 < length painters.old }
-    requires able { ArePainters P.able P.strip place.width place.left place.wide count
-        painters.old }
-    requires small { place.width ≤ GREATEST_DISPLAY_SIDE }
-    requires few { (place.top + count) ≤ GREATEST_DISPLAY_SIDE }
-    requires inside { ((place.top + count) * place.width) ≤ length pixels.old }
-    ensures painted { (s : Strip) → All (λ p. P.strip p ≡ s) painters.old
-        → pixels.new ≡ rows_put place.width (place.top * place.width + place.left)
-        s.row count pixels.old }
+    requires { MayFill P.able P.strip place count painters.old pixels.old }
+    ensures painted { IsFilled P.strip place count painters.old pixels.old pixels.new }
     ensures long { length pixels.new ≡ length pixels.old }
 {
     let (_, below) = pixels.split_at_mut(pixels_in(place.width, place.top));

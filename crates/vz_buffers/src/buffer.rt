@@ -1,9 +1,9 @@
 //! A buffer of pixels.
-ghost use Rattle.std.specs.Prelude.{◌≡◌, ◌+◌, ◌≤◌, ◌≤ℤ◌, ◌<ℤ◌, ◌+ℤ◌, ◌++◌, ◌<◌, pos, nat_abs, length, map, take, drop, replicate, slice_get, Some, IfOk, OnOk, OnErr};
-ghost use Rattle.std.specs.List.{flat_map, All};
+ghost use Rattle.std.specs.Prelude.{◌≡◌, ◌+◌, ◌≤◌, ◌≤ℤ◌, ◌<ℤ◌, ◌+ℤ◌, pos, length, replicate, slice_get, Some, IfOk, OnOk, OnErr};
+ghost use Rattle.std.specs.List.{flat_map};
 ghost use Rattle.vz_pixels.specs.Colour.{black, colour_bytes};
 ghost use Rattle.vz_buffers.specs.Canvas.{IsCanvas, pixel_count, span_put, pixel_place};
-ghost use Rattle.vz_buffers.specs.Bands.{Strip, ArePainters, rows_put};
+ghost use Rattle.vz_buffers.specs.Bands.{MayPut, ArePut};
 ghost use Rattle.vz_geom.specs.Display.{IsDisplaySize};
 ghost use Rattle.vz_geom.specs.Rectangle.{area_of};
 
@@ -91,18 +91,9 @@ impl Buffer {
         painters: &mut [P],
         steps: &mut Steps<L>,
     )
-        requires left { pos 0 ≤ℤ area.now.x }
-        requires top { pos 0 ≤ℤ area.now.y }
-        requires bottom { (area.now.y +ℤ area.now.h) ≤ℤ self.old.size.h }
-        requires sides { (pos 1 ≤ℤ area.now.w) × (pos 1 ≤ℤ area.now.h) }
-        requires some { 0 < length painters.old }
-        requires able { ArePainters P.able P.strip (nat_abs self.old.size.w) (nat_abs area.now.x)
-            (nat_abs area.now.w) (nat_abs area.now.h) painters.old }
+        requires { MayPut P.able P.strip self.old.size area.now painters.old }
         ensures size { self.new.size ≡ self.old.size }
-        ensures put { (s : Strip) → All (λ p. P.strip p ≡ s) painters.old → self.new.pixels
-            ≡ rows_put (nat_abs self.old.size.w)
-            (pixel_place self.old.size area.now.x area.now.y) s.row (nat_abs area.now.h)
-            self.old.pixels }
+        ensures put { ArePut P.strip self.old area.now painters.old self.new.pixels }
         ensures counted { steps.new ≡ steps.old + area_of area.now }
     {
         let place = place_of(&self.size, area);

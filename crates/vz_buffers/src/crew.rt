@@ -17,8 +17,8 @@ fn run<J: Job + Send + Sync, P: RowPainter + Send, R: Threads + Sync, S: Slots<J
     slots: &S,
     painters: &mut [P],
 )
-    requires { AreReady P.able P.strip J.width J.left J.wide J.strip painters.old }
-    ensures { AreReady P.able P.strip J.width J.left J.wide J.strip painters.new }
+    requires { AreReady P.able P.strip J.work painters.old }
+    ensures { AreReady P.able P.strip J.work painters.new }
 {
     if painters.len() == 1 {
         slots.walk(&mut painters[0]);
@@ -36,20 +36,20 @@ fn run_both<J: Job + Send + Sync, P: RowPainter + Send, R: Threads + Sync, S: Sl
     ours: &mut [P],
     theirs: &mut [P],
 )
-    requires ours { AreReady P.able P.strip J.width J.left J.wide J.strip ours.old }
-    requires theirs { AreReady P.able P.strip J.width J.left J.wide J.strip theirs.old }
-    ensures ours { AreReady P.able P.strip J.width J.left J.wide J.strip ours.new }
-    ensures theirs { AreReady P.able P.strip J.width J.left J.wide J.strip theirs.new }
+    requires ours { AreReady P.able P.strip J.work ours.old }
+    requires theirs { AreReady P.able P.strip J.work theirs.old }
+    ensures ours { AreReady P.able P.strip J.work ours.new }
+    ensures theirs { AreReady P.able P.strip J.work theirs.new }
 {
     let mut first = ||
         requires { IsSync R.row × IsSync S.row × IsSend P.row × IsSend J.row × IsSync J.row
-            × AreReady P.able P.strip J.width J.left J.wide J.strip ours.now }
-        ensures { AreReady P.able P.strip J.width J.left J.wide J.strip ours.exit.now }
+            × AreReady P.able P.strip J.work ours.now }
+        ensures { AreReady P.able P.strip J.work ours.exit.now }
     { run::<J, P, R, S>(rt, slots, ours) };
     let mut second = ||
         requires { IsSync R.row × IsSync S.row × IsSend P.row × IsSend J.row × IsSync J.row
-            × AreReady P.able P.strip J.width J.left J.wide J.strip theirs.now }
-        ensures { AreReady P.able P.strip J.width J.left J.wide J.strip theirs.exit.now }
+            × AreReady P.able P.strip J.work theirs.now }
+        ensures { AreReady P.able P.strip J.work theirs.exit.now }
     { run::<J, P, R, S>(rt, slots, theirs) };
     join_mut(rt, &mut first, &mut second);
 }
@@ -61,12 +61,11 @@ pub(crate) fn finish<
     R: Threads + Sync,
     S: Slots<J, P> + Sync,
 >(rt: &R, slots: &S, place: Place, band: Band, painters: &mut [P], pixels: &mut [Pixel])
-    requires ready { AreReady P.able P.strip J.width J.left J.wide J.strip painters.old }
-    requires placed { IsPlaced J.width J.left J.wide place.width place.left place.wide }
-    requires band { IsBand J.width J.strip band.from band.count pixels.old }
-    ensures ready { AreReady P.able P.strip J.width J.left J.wide J.strip painters.new }
-    ensures drawn { pixels.new
-        ≡ drawn J.width J.left J.strip band.from band.count pixels.old }
+    requires ready { AreReady P.able P.strip J.work painters.old }
+    requires placed { IsPlaced J.work place }
+    requires band { IsBand J.work band.from band.count pixels.old }
+    ensures ready { AreReady P.able P.strip J.work painters.new }
+    ensures drawn { pixels.new ≡ drawn J.work band.from band.count pixels.old }
 {
     run::<J, P, R, S>(rt, slots, painters);
     paint_ready::<J, P>(&mut painters[0], place, band, pixels);

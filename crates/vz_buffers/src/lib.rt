@@ -5,8 +5,7 @@
 mod bands;
 mod buffer;
 mod crew;
-mod early;
-mod late;
+mod holding;
 pub mod laws;
 mod queue;
 mod shared;

@@ -2,66 +2,32 @@
 //!
 //! What a lock gives back is known by its type alone. So the type of a slot has a parameter that
 //! says which band it holds, and each call that puts a band into a slot picks it.
-ghost use Rattle.std.specs.Prelude.{◌≡◌, ℕ, ◌+◌, ◌*◌, ◌≤◌, List, [], length};
-ghost use Rattle.std.specs.Borrow.{GName};
-ghost use Rattle.vz_base.specs.declared.limits.TheConstants.{GREATEST_DISPLAY_SIDE};
-ghost use Rattle.vz_pixels.specs.Colour.{Colour};
-ghost use Rattle.vz_buffers.specs.Bands.{Strip};
-ghost use Rattle.vz_buffers.specs.Taken.{IsReady, IsPlaced, IsBand, drawn, drawn_if, no_strip};
+ghost use Rattle.std.specs.Prelude.{◌≡◌, []};
+ghost use Rattle.vz_buffers.specs.Taken.{Work, Aim, IsReady, IsPlaced, IsBand, drawn, drawn_if, no_strip};
 
 use crate::bands::{Band, Place, RowPainter, paint_band};
 use std::marker::{Brand, PhantomData};
 use std::sync::Mutex;
 use vz_pixels::Pixel;
 
-/// What all bands of a call have in common: the rows, and where they stand.
+/// What all bands of a call have in common.
 pub(crate) trait Job {
-    /// The rows.
-    ghost strip: { Strip };
-
-    /// The width of the display.
-    ghost width: { ℕ };
-
-    /// The column at which the rows begin.
-    ghost left: { ℕ };
-
-    /// How wide they are.
-    ghost wide: { ℕ };
+    /// The rows, and where they stand.
+    ghost work: { Work };
 }
 
 impl Job for Brand {
-    ghost strip = { no_strip };
-
-    ghost width = { 0 };
-
-    ghost left = { 0 };
-
-    ghost wide = { 0 };
+    ghost work = { record { width = 0; left = 0; wide = 0; strip = no_strip } };
 }
 
-/// One band: its pixels, and which of the rows are theirs.
+/// One band.
 pub(crate) trait Target {
-    /// Under which name the pixels were lent.
-    ghost name: { GName };
-
-    /// What they were.
-    ghost before: { List Colour };
-
-    /// The first row.
-    ghost from: { ℕ };
-
-    /// How many rows they are.
-    ghost count: { ℕ };
+    /// Its pixels, and which of the rows are theirs.
+    ghost aim: { Aim };
 }
 
 impl Target for Brand {
-    ghost name = { 0 };
-
-    ghost before = { [] };
-
-    ghost from = { 0 };
-
-    ghost count = { 0 };
+    ghost aim = { record { name = 0; before = []; from = 0; count = 0 } };
 }
 
 /// A band that is painted or waits for it.
@@ -72,27 +38,23 @@ pub(crate) struct Slot<'p, J: Job, G: Target> {
     pub(crate) done: bool,
     pub(crate) of: PhantomData<J>,
     pub(crate) by: PhantomData<G>,
-    ghost same: { chunk.ghost_name ≡ G.name },
-    ghost width: { place.width ≡ J.width },
-    ghost left: { place.left ≡ J.left },
-    ghost wide: { place.wide ≡ J.wide },
-    ghost from: { band.from ≡ G.from },
-    ghost count: { band.count ≡ G.count },
-    ghost upto: { (G.from + G.count) ≤ J.strip.high },
-    ghost few: { (G.from + G.count) ≤ GREATEST_DISPLAY_SIDE },
-    ghost counted: { length G.before ≡ G.count * J.width },
-    ghost state: { chunk.now ≡ drawn_if done J.width J.left J.strip G.from G.count G.before },
+    ghost same: { chunk.ghost_name ≡ G.aim.name },
+    ghost placed: { IsPlaced J.work place },
+    ghost first: { band.from ≡ G.aim.from },
+    ghost many: { band.count ≡ G.aim.count },
+    ghost whole: { IsBand J.work G.aim.from G.aim.count G.aim.before },
+    ghost state: { chunk.now ≡ drawn_if done J.work G.aim.from G.aim.count G.aim.before },
 }
 
 impl<'p, J: Job, G: Target> Slot<'p, J, G> {
     /// A band that waits.
     pub(crate) fn new(place: Place, band: Band, chunk: &'p mut [Pixel]) -> Slot<'p, J, G>
-        requires placed { IsPlaced J.width J.left J.wide place.width place.left place.wide }
-        requires name { chunk.ghost_name ≡ G.name }
-        requires before { chunk.now ≡ G.before }
-        requires from { band.from ≡ G.from }
-        requires count { band.count ≡ G.count }
-        requires band { IsBand J.width J.strip G.from G.count G.before }
+        requires placed { IsPlaced J.work place }
+        requires name { chunk.ghost_name ≡ G.aim.name }
+        requires before { chunk.now ≡ G.aim.before }
+        requires from { band.from ≡ G.aim.from }
+        requires count { band.count ≡ G.aim.count }
+        requires band { IsBand J.work G.aim.from G.aim.count G.aim.before }
         ensures same { result.chunk.ghost_name ≡ chunk.entry.ghost_name }
     {
         Slot {
@@ -113,20 +75,19 @@ pub(crate) fn paint_ready<J: Job, P: RowPainter>(
     band: Band,
     pixels: &mut [Pixel],
 )
-    requires ready { IsReady P.able P.strip J.width J.left J.wide J.strip painter.old }
-    requires placed { IsPlaced J.width J.left J.wide place.width place.left place.wide }
-    requires band { IsBand J.width J.strip band.from band.count pixels.old }
-    ensures ready { IsReady P.able P.strip J.width J.left J.wide J.strip painter.new }
-    ensures drawn { pixels.new
-        ≡ drawn J.width J.left J.strip band.from band.count pixels.old }
+    requires ready { IsReady P.able P.strip J.work painter.old }
+    requires placed { IsPlaced J.work place }
+    requires band { IsBand J.work band.from band.count pixels.old }
+    ensures ready { IsReady P.able P.strip J.work painter.new }
+    ensures drawn { pixels.new ≡ drawn J.work band.from band.count pixels.old }
 {
     paint_band(place, band, painter, pixels);
 }
 
 /// Paints a band that waits, if no other thread has it.
 fn try_slot<J: Job, G: Target, P: RowPainter>(slot: &Mutex<Slot<'_, J, G>>, painter: &mut P)
-    requires { IsReady P.able P.strip J.width J.left J.wide J.strip painter.old }
-    ensures { IsReady P.able P.strip J.width J.left J.wide J.strip painter.new }
+    requires { IsReady P.able P.strip J.work painter.old }
+    ensures { IsReady P.able P.strip J.work painter.new }
 {
     if let Some(mut guard) = slot.try_lock() {
         let slot = &mut *guard;
@@ -145,14 +106,14 @@ pub(crate) fn end_band<J: Job, G: Target, P: RowPainter>(
     done: bool,
     chunk: &mut [Pixel],
 )
-    requires ready { IsReady P.able P.strip J.width J.left J.wide J.strip painter.old }
-    requires placed { IsPlaced J.width J.left J.wide place.width place.left place.wide }
-    requires from { band.from ≡ G.from }
-    requires count { band.count ≡ G.count }
-    requires band { IsBand J.width J.strip G.from G.count G.before }
-    requires state { chunk.old ≡ drawn_if done J.width J.left J.strip G.from G.count G.before }
-    ensures ready { IsReady P.able P.strip J.width J.left J.wide J.strip painter.new }
-    ensures drawn { chunk.new ≡ drawn J.width J.left J.strip G.from G.count G.before }
+    requires ready { IsReady P.able P.strip J.work painter.old }
+    requires placed { IsPlaced J.work place }
+    requires from { band.from ≡ G.aim.from }
+    requires count { band.count ≡ G.aim.count }
+    requires band { IsBand J.work G.aim.from G.aim.count G.aim.before }
+    requires state { chunk.old ≡ drawn_if done J.work G.aim.from G.aim.count G.aim.before }
+    ensures ready { IsReady P.able P.strip J.work painter.new }
+    ensures drawn { chunk.new ≡ drawn J.work G.aim.from G.aim.count G.aim.before }
 {
     if done {
         return;
@@ -164,8 +125,8 @@ pub(crate) fn end_band<J: Job, G: Target, P: RowPainter>(
 pub(crate) trait Slots<J: Job, P: RowPainter> {
     /// Paints each band that waits and that no other thread has.
     fn walk(&self, painter: &mut P)
-        requires { IsReady P.able P.strip J.width J.left J.wide J.strip painter.old }
-        ensures { IsReady P.able P.strip J.width J.left J.wide J.strip painter.new };
+        requires { IsReady P.able P.strip J.work painter.old }
+        ensures { IsReady P.able P.strip J.work painter.new };
 }
 
 /// No slot.

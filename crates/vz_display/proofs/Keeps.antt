@@ -102,6 +102,11 @@ while_shown own size t kept r is on turns rest =
       is.1,
     ))
 
+-- the same, by what the picture says of itself
+pub while_added : (own d : Displayed) (p : Pictured) (size : Size) (t : Turns) (kept : List (Option Canvas)) (r : Rectangle) → own ≡ d → IsPictured p → p.size ≡ d.turns.size → r ≡ p.changed → IsDisplayed own × (size ≡ own.turns.size)
+    → t ≡ damaged own.turns r → kept ≡ take (length own.kept - 1) own.kept → IsDisplayed (record { turns = t; kept = kept; painted = own.painted }) × (size ≡ t.size)
+while_added own d p size t kept r same proper fits changed is = while_shown own size t kept r is (damage_on own d p r same proper fits changed)
+
 -- what is stale is on the display
 pub area_on : (own : Displayed) (p : Pictured) (t : Turns) (area r : Rectangle) → IsDisplayed own → p.size ≡ own.turns.size → Covers (sized own.turns.size) r → t ≡ damaged own.turns r → area ≡ stale_of t → Covers (sized p.size) area
 unfolding damaged stale_of
@@ -130,6 +135,12 @@ when_shown own size t t' kept b r total is on turns goes fits put =
       },
       is.1,
     ))
+
+-- the same, by what the picture says of itself
+pub when_added : (own d : Displayed) (p : Pictured) (size : Size) (t t' : Turns) (kept : List (Option Canvas)) (b : Canvas) (r : Rectangle) (total : ℕ) → own ≡ d → IsPictured p → p.size ≡ d.turns.size → r ≡ p.changed
+    → IsDisplayed own × (size ≡ own.turns.size) → t ≡ damaged own.turns r → t' ≡ turned t → b.size ≡ size → kept ≡ Some b ∷ take (length own.kept - 1) own.kept
+    → IsDisplayed (record { turns = t'; kept = kept; painted = total }) × (size ≡ t'.size)
+when_added own d p size t t' kept b r total same proper fits changed is = when_shown own size t t' kept b r total is (damage_on own d p r same proper fits changed)
 
 -- the display that a picture leaves
 pub shown_is : (own d : Displayed) (p : Pictured) (size : Size) (r area : Rectangle) (t t' : Turns) (b b' : Canvas) (kept : List (Option Canvas)) (total : ℕ) → own ≡ d → p.size ≡ d.turns.size → size ≡ own.turns.size → r ≡ p.changed

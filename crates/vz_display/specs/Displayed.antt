@@ -75,6 +75,14 @@ steps_for d r = making_in d.turns.size (last_in d.kept) + area_of (stale_now d r
 abbrev pub upto_most : ℕ → ℕ
 upto_most n = min n (2 ^ 64 - 1)
 
+-- the steps that it costs a display to show a picture
+abbrev pub cost : DisplayState → Pictured → ℕ
+cost d p = steps_for d.shown p.changed
+
+-- how many occluded items are removed in all, with so many more
+abbrev pub removed_with : DisplayState → ℕ → ℕ
+removed_with d gone = upto_most (d.removed + gone)
+
 -- the frame for a picture: the picture's colours inside the stale rectangle of the next buffer,
 -- and the buffer's old colours outside
 unfoldable pub frame_of : Displayed → Pictured → List Colour

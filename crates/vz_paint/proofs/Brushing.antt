@@ -10,7 +10,7 @@ use Rattle.vz_geom.specs.declared.Point.{Point}
 use Rattle.vz_geom.specs.declared.Size.{Size}
 use Rattle.vz_geom.specs.Rectangle.{Rectangle, sized}
 use Rattle.vz_pixels.specs.Colour.{Colour, transparent}
-use Rattle.vz_buffers.specs.Bands.{Strip, FitsIn, ArePainters}
+use Rattle.vz_buffers.specs.Bands.{Strip, FitsIn, ArePainters, MayPut}
 use Rattle.vz_machine.specs.Pictured.{IsInside}
 use Rattle.vz_flat.specs.declared.op.Op.{Op}
 use Rattle.vz_flat.specs.Ops.{value}
@@ -78,10 +78,25 @@ strip_fits size ops ground area inside =
     }
 
 -- brushes for one drawing can paint its area
-pub are_painters : {P : Type 0} (able : P → Type 0) (strip : P → Strip) (size : Size) (ops : List Op) (ground : Colour) (area : Rectangle) (brushes : List P) → IsInside (sized size) area
+are_painters : {P : Type 0} (able : P → Type 0) (strip : P → Strip) (size : Size) (ops : List Op) (ground : Colour) (area : Rectangle) (brushes : List P) → IsInside (sized size) area
     → All (λ b. able b × (strip b ≡ strip_of ops ground area)) brushes
     → ArePainters able strip (nat_abs size.w) (nat_abs area.x) (nat_abs area.w) (nat_abs area.h) brushes
 are_painters able strip size ops ground area brushes inside each = (strip_of ops ground area, strip_fits size ops ground area inside, omega arith, each)
+
+-- and may put it into a buffer
+pub may_put : {P : Type 0} (able : P → Type 0) (strip : P → Strip) (size : Size) (ops : List Op) (ground : Colour) (area : Rectangle) (brushes : List P) → IsInside (sized size) area → 0 < length brushes
+    → All (λ b. able b × (strip b ≡ strip_of ops ground area)) brushes → MayPut able strip size area brushes
+may_put able strip size ops ground area brushes inside some each =
+    let bottom = inside.bottom in
+    record {
+      left = inside.left;
+      top = inside.top;
+      bottom = omega (arith, ints, bottom);
+      wide = inside.wide;
+      high = inside.high;
+      some = some;
+      ready = are_painters able strip size ops ground area brushes inside each;
+    }
 
 -- a brush for these operations
 abbrev pub IsReady : List (Bor Op) → Sheet → Brush → Type 0

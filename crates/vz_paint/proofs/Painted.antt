@@ -1,5 +1,5 @@
 -- A row of colours is the part of a picture in the row of an area.
-use Rattle.std.proofs.Common.{◌≡◌, ℕ, zero, suc, ◌+◌, ◌*◌, ◌≤◌, ◌<◌, pos, nat_abs, ◌+ℤ◌, ◌≤ℤ◌, List, length, take, drop, map, get_or, refl, sym, ap, ◌∙◌, mul_comm, arith}
+use Rattle.std.proofs.Common.{◌≡◌, ℕ, zero, suc, ◌+◌, ◌*◌, ◌≤◌, ◌<◌, pos, nat_abs, ◌+ℤ◌, ◌≤ℤ◌, Bool, true, false, List, length, take, drop, map, get_or, refl, sym, ap, ◌∙◌, subst, mul_comm, arith}
 use Rattle.std.proofs.lemmas.Int.{ints}
 use Rattle.std.specs.List.{range_with_len}
 use Rattle.std.proofs.lemmas.List.FromFn.{length-map-range_with_len, get_or-map-range_with_len}
@@ -7,13 +7,14 @@ use Rattle.std.proofs.lemmas.List.{ext_get_or, length-map, get_or-take, get_or-d
 use Rattle.std.proofs.Math.Nat.{mul-le-mul_right}
 use Rattle.vz_geom.specs.declared.Point.{Point}
 use Rattle.vz_geom.specs.declared.Size.{Size}
-use Rattle.vz_geom.specs.Rectangle.{Rectangle, points_of, sized}
+use Rattle.vz_geom.specs.Rectangle.{Rectangle, IsRectangle, points_of, sized, area_of, is_empty_rect}
 use Rattle.vz_geom.specs.Display.{IsDisplaySize}
 use Rattle.vz_pixels.specs.Colour.{Colour, transparent}
 use Rattle.vz_buffers.specs.Canvas.{pixel_count, pixel_place, span_put}
 use Rattle.vz_rules.specs.Frames.{patched}
 use Rattle.vz_buffers.specs.Bands.{rows_put}
 use Rattle.vz_machine.specs.Pictured.{IsInside, row_of, first_rows}
+use Rattle.vz_machine.proofs.Whole.{nothing_counted}
 use Rattle.vz_machine.proofs.Points.{point, points_at, length_points, map_at}
 use Rattle.vz_machine.proofs.Spans.{place_fits, row_painted}
 use Rattle.vz_machine.proofs.Rows.{rows_begin, rows_step, rows_long}
@@ -113,3 +114,13 @@ rows_painted size area (suc k) ops ground colour olds sides inside few all same 
     ∙ (ap (span_put now (pixel_place size area.x (area.y +ℤ pos k))) part ∙ row_painted size area k news now sides inside (omega (arith, few)) (all_points size colour) long) in
     let next : k + 1 ≡ suc k = omega arith in
     rows_step size area k news olds now (span_put now (k * nat_abs size.w + pixel_place size area.x area.y) row) (all_points size colour) all before one ∙ ap (λ n. patched (first_rows area n) (points_of size) news olds) next
+
+-- an area that is worth a second thread has a point
+pub full_area : (area : Rectangle) (threads pixels : ℕ) → IsRectangle area → 1 ≤ threads → (threads ≡ 1 → ⊥) → (1 < threads → 1 ≤ pixels) → pixels ≡ area_of area → is_empty_rect area ≡ false
+full_area area threads pixels is some more worth many =
+    let two : 1 < threads = omega (arith, some, more) in
+    not_empty (is_empty_rect area) (area_of area) (λ e. nothing_counted area is e) (subst (λ n. 1 ≤ n) many (worth two))
+  where
+    not_empty : (t : Bool) (n : ℕ) → (t ≡ true → 0 ≡ n) → 1 ≤ n → t ≡ false
+    not_empty true n none full = absurd (let gone = none refl in omega (arith, gone, full))
+    not_empty false n none full = refl

@@ -2,8 +2,10 @@
 use Rattle.std.specs.Prelude.{◌≡◌, pos, nat_abs, ◌+ℤ◌, ◌≤ℤ◌, ◌≤◌, true, List, length, map}
 use Rattle.std.specs.List.{range_with_len}
 use Rattle.vz_base.specs.declared.limits.TheConstants.{GREATEST_DISPLAY_SIDE}
-use Rattle.vz_geom.specs.Rectangle.{Rectangle}
-use Rattle.vz_pixels.specs.Colour.{Colour}
+use Rattle.vz_geom.specs.Rectangle.{Rectangle, points_of}
+use Rattle.vz_pixels.specs.Colour.{Colour, black}
+use Rattle.vz_rules.specs.Frames.{patched}
+use Rattle.vz_buffers.specs.Canvas.{Canvas}
 use Rattle.vz_buffers.specs.Bands.{Strip}
 use Rattle.vz_flat.specs.declared.op.Op.{Op}
 use Rattle.vz_flat.specs.Ops.{value, is_whole, deepest}
@@ -32,3 +34,8 @@ pub record IsBrush (ops : List Op) (area : Rectangle) (groups : List OpenGroup) 
   pub whole : is_whole ops ≡ true
   pub room : deepest 0 ops ≤ length groups
   pub rows : AreRows (nat_abs area.w) groups
+
+-- an area of a buffer has the colours that operations give on opaque black, and what is outside
+-- stays
+abbrev pub IsPainted : List Op → Rectangle → Canvas → Canvas → Type 0
+IsPainted ops area old new = new.pixels ≡ patched area (points_of old.size) (map (λ p. value ops p black) (points_of old.size)) old.pixels

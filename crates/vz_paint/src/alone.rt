@@ -1,12 +1,9 @@
 //! Painting an area of a buffer without a runtime.
-ghost use Rattle.std.specs.Prelude.{◌≡◌, ◌+◌, length, map, OnOk, OnErr};
-ghost use Rattle.vz_geom.specs.Rectangle.{Covers, sized, points_of, area_of};
-ghost use Rattle.vz_geom.specs.Display.{IsDisplaySize};
-ghost use Rattle.vz_pixels.specs.Colour.{black};
-ghost use Rattle.vz_rules.specs.Frames.{patched};
-ghost use Rattle.vz_buffers.specs.Canvas.{pixel_count};
+ghost use Rattle.std.specs.Prelude.{◌≡◌, ◌+◌, OnOk, OnErr};
+ghost use Rattle.vz_geom.specs.Rectangle.{Covers, sized, area_of};
+ghost use Rattle.vz_buffers.specs.Canvas.{IsCanvas};
 ghost use Rattle.vz_machine.specs.Pictured.{IsInside};
-ghost use Rattle.vz_flat.specs.Ops.{value};
+ghost use Rattle.vz_paint.specs.Strips.{IsPainted};
 
 use crate::brush::{Brush, Sheet, places};
 use crate::choice::choose;
@@ -29,13 +26,10 @@ pub(crate) fn paint_area_alone<L: Ledger>(
     buffer: &mut Buffer,
     steps: &mut Steps<L>,
 ) -> Result<(), Memory>
-    requires sides { IsDisplaySize buffer.old.size }
-    requires canvas { length buffer.old.pixels ≡ pixel_count buffer.old.size }
+    requires canvas { IsCanvas buffer.old }
     requires inside { IsInside (sized buffer.old.size) area.now }
     ensures size { buffer.new.size ≡ buffer.old.size }
-    ensures painted { OnOk result (buffer.new.pixels ≡ patched area.now
-        (points_of buffer.old.size) (map (λ p. value ops.now p black) (points_of buffer.old.size))
-        buffer.old.pixels) }
+    ensures painted { OnOk result (IsPainted ops.now area.now buffer.old buffer.new) }
     ensures counted { OnOk result (steps.new ≡ steps.old + area_of area.now) }
     ensures err { OnErr result (buffer.new ≡ buffer.old) }
     ensures err_steps { OnErr result (steps.new ≡ steps.old) }
@@ -46,12 +40,15 @@ pub(crate) fn paint_area_alone<L: Ledger>(
     let shown = chosen.as_slice();
     let ground = ground_of(shown, area);
     let rest = behind(shown, ground.drawn);
-    let sheet = Sheet {
-        area: *area,
-        ground: ground.color,
-        deepest: ops.deepest(),
-    };
-    let mut brush = Brush::new(alloc, rest, sheet)?;
+    let mut brush = Brush::new(
+        alloc,
+        rest,
+        Sheet {
+            area: *area,
+            ground: ground.color,
+            deepest: ops.deepest(),
+        },
+    )?;
     buffer.put_rows_alone(area, from_mut(&mut brush), steps);
     Ok(())
 }
@@ -68,8 +65,7 @@ pub fn paint_alone<L: Ledger>(
 ) -> Result<(), Memory>
     requires inside { Covers (sized buffer.old.size) area }
     ensures size { buffer.new.size ≡ buffer.old.size }
-    ensures painted { OnOk result (buffer.new.pixels ≡ patched area (points_of buffer.old.size)
-        (map (λ p. value ops.now p black) (points_of buffer.old.size)) buffer.old.pixels) }
+    ensures painted { OnOk result (IsPainted ops.now area buffer.old buffer.new) }
     ensures counted { OnOk result (steps.new ≡ steps.old + area_of area) }
     ensures err { OnErr result (buffer.new ≡ buffer.old) }
     ensures err_steps { OnErr result (steps.new ≡ steps.old) }

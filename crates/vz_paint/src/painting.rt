@@ -1,14 +1,11 @@
 //! Painting an area of a buffer.
-ghost use Rattle.std.specs.Prelude.{◌≡◌, ◌+◌, ◌≤◌, ◌≤ℤ◌, pos, nat_abs, length, map, OnOk, OnErr};
-ghost use Rattle.vz_geom.specs.Rectangle.{Covers, sized, points_of, area_of};
-ghost use Rattle.vz_geom.specs.Display.{IsDisplaySize};
-ghost use Rattle.vz_pixels.specs.Colour.{black};
-ghost use Rattle.vz_rules.specs.Frames.{patched};
-ghost use Rattle.vz_buffers.specs.Canvas.{pixel_count};
+ghost use Rattle.std.specs.Prelude.{◌≡◌, ◌+◌, ◌≤◌, ◌<◌, OnOk, OnErr};
+ghost use Rattle.vz_geom.specs.Rectangle.{Covers, sized, area_of};
+ghost use Rattle.vz_buffers.specs.Canvas.{IsCanvas};
 ghost use Rattle.vz_machine.specs.Pictured.{IsInside};
-ghost use Rattle.vz_flat.specs.Ops.{value};
+ghost use Rattle.vz_paint.specs.Strips.{IsPainted};
 
-use crate::alone::paint_area_alone;
+use crate::alone::paint_alone;
 use crate::brush::{Sheet, brushes_for, places};
 use crate::choice::choose;
 use crate::ground::{behind, ground_of};
@@ -29,7 +26,8 @@ pub(crate) const FEW_OPS: usize = 16;
 
 /// How many threads paint an area of this many pixels.
 fn threads_for<R: Threads>(rt: &R, pixels: u64) -> usize
-    ensures { 1 ≤ result }
+    ensures some { 1 ≤ result }
+    ensures worth { (1 < result) → 1 ≤ pixels }
 {
     let worth = pixels / SHARE;
     if worth < 2 {
@@ -52,14 +50,11 @@ fn paint_area<L: Ledger, R: Threads + Sync>(
     buffer: &mut Buffer,
     steps: &mut Steps<L>,
 ) -> Result<(), Memory>
-    requires sides { IsDisplaySize buffer.old.size }
-    requires canvas { length buffer.old.pixels ≡ pixel_count buffer.old.size }
+    requires canvas { IsCanvas buffer.old }
     requires inside { IsInside (sized buffer.old.size) area.now }
     requires threads { 1 ≤ threads }
     ensures size { buffer.new.size ≡ buffer.old.size }
-    ensures painted { OnOk result (buffer.new.pixels ≡ patched area.now
-        (points_of buffer.old.size) (map (λ p. value ops.now p black) (points_of buffer.old.size))
-        buffer.old.pixels) }
+    ensures painted { OnOk result (IsPainted ops.now area.now buffer.old buffer.new) }
     ensures counted { OnOk result (steps.new ≡ steps.old + area_of area.now) }
     ensures err { OnErr result (buffer.new ≡ buffer.old) }
     ensures err_steps { OnErr result (steps.new ≡ steps.old) }
@@ -70,12 +65,16 @@ fn paint_area<L: Ledger, R: Threads + Sync>(
     let shown = chosen.as_slice();
     let ground = ground_of(shown, area);
     let rest = behind(shown, ground.drawn);
-    let sheet = Sheet {
-        area: *area,
-        ground: ground.color,
-        deepest: ops.deepest(),
-    };
-    let mut brushes = brushes_for(alloc, rest, sheet, threads)?;
+    let mut brushes = brushes_for(
+        alloc,
+        rest,
+        Sheet {
+            area: *area,
+            ground: ground.color,
+            deepest: ops.deepest(),
+        },
+        threads,
+    )?;
     buffer.put_rows(rt, area, brushes.as_mut_slice(), steps);
     Ok(())
 }
@@ -101,21 +100,17 @@ pub fn paint<L: Ledger, R: Threads + Sync>(
 ) -> Result<(), Memory>
     requires inside { Covers (sized buffer.old.size) area }
     ensures size { buffer.new.size ≡ buffer.old.size }
-    ensures painted { OnOk result (buffer.new.pixels ≡ patched area (points_of buffer.old.size)
-        (map (λ p. value ops.now p black) (points_of buffer.old.size)) buffer.old.pixels) }
+    ensures painted { OnOk result (IsPainted ops.now area buffer.old buffer.new) }
     ensures counted { OnOk result (steps.new ≡ steps.old + area_of area) }
     ensures err { OnErr result (buffer.new ≡ buffer.old) }
     ensures err_steps { OnErr result (steps.new ≡ steps.old) }
 {
-    let _size = buffer.size();
-    if area.is_empty() {
-        return Ok(());
-    }
     let threads = threads_for(rt, area.area());
     if threads == 1 {
-        paint_area_alone(alloc, ops, &area, buffer, steps)?;
+        paint_alone(alloc, ops, buffer, area, steps)?;
         return Ok(());
     }
+    let _size = buffer.size();
     paint_area(rt, alloc, ops, &area, threads, buffer, steps)?;
     Ok(())
 }

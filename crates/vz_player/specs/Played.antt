@@ -1,5 +1,6 @@
 -- The state of a player.
 use Rattle.std.specs.Prelude.{◌≡◌, ℕ, ◌+◌, ◌-◌, ◌^◌, ◌≤◌, Bool, true, false, Option, Some, None, ◌⊎◌, List, [], ◌∷◌, ◌++◌, length, min, ◌==◌, count_by}
+use Rattle.std.specs.Option.{option_map}
 use Rattle.vz_base.specs.declared.limits.TheConstants.{MOST_FILES}
 use Rattle.vz_geom.specs.Display.{IsDisplaySize}
 use Rattle.vz_pixels.specs.Colour.{Colour}
@@ -81,6 +82,14 @@ shown_with d (Some p) = shown d p
 abbrev pub steps_with : Displayed → Option Pictured → ℕ
 steps_with d None = 0
 steps_with d (Some p) = steps_for d p.changed
+
+-- a display shows this picture, if there is one
+abbrev pub Shows : {P : Type 0} → (P → Pictured) → Option P → Displayed → Displayed → Type 0
+Shows pictured picture old new = new ≡ shown_with old (option_map pictured picture)
+
+-- the steps of before, with those for showing it
+abbrev pub Costs : {P : Type 0} → (P → Pictured) → Option P → Displayed → ℕ → ℕ → Type 0
+Costs pictured picture old before after = after ≡ before + steps_with old (option_map pictured picture)
 
 -- the next number, which stays at the greatest one of 64 bits
 abbrev pub next_number : ℕ → ℕ

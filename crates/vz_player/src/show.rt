@@ -1,7 +1,7 @@
 //! Shows pictures on a display.
-ghost use Rattle.std.specs.Prelude.{◌≡◌, ◌+◌, is_some, IfOk, IfSome, OnOk};
+ghost use Rattle.std.specs.Prelude.{◌≡◌, is_some, IfOk, IfSome, OnOk};
 ghost use Rattle.std.specs.Option.{option_map};
-ghost use Rattle.vz_player.specs.Played.{shown_with, steps_with};
+ghost use Rattle.vz_player.specs.Played.{Shows, Costs};
 
 use std::alloc::Global;
 use std::sync::ledger::Ledger;
@@ -22,18 +22,14 @@ pub fn show_some<P: Picture + Drop, L: Ledger, R: Threads + Sync>(
     steps: &mut Steps<L>,
 ) -> Result<bool, Memory>
     requires { IfSome picture (λ p. (P.pictured p).size ≡ display.old.shown.turns.size) }
-    ensures display { OnOk result
-        (display.new.shown ≡ shown_with display.old.shown (option_map P.pictured picture)) }
-    ensures counted { OnOk result
-        (steps.new ≡ steps.old + steps_with display.old.shown (option_map P.pictured picture)) }
+    ensures display { OnOk result (Shows P.pictured picture display.old.shown display.new.shown) }
+    ensures counted { OnOk result (Costs P.pictured picture display.old.shown steps.old steps.new) }
     ensures drawn { IfOk result (λ drawn. drawn ≡ is_some (option_map P.pictured picture)) }
 {
-    match picture {
-        None => Ok(false),
-        Some(picture) => {
-            let thin = picture.occlude(alloc)?;
-            display.show(rt, alloc, &thin, steps)?;
-            Ok(true)
-        }
-    }
+    let Some(picture) = picture else {
+        return Ok(false);
+    };
+    let thin = picture.occlude(alloc)?;
+    display.show(rt, alloc, &thin, steps)?;
+    Ok(true)
 }

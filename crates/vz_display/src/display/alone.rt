@@ -1,6 +1,6 @@
 //! Showing a picture without a runtime.
 ghost use Rattle.std.specs.Prelude.{◌≡◌, ◌+◌, OnOk};
-ghost use Rattle.vz_display.specs.Displayed.{shown, steps_for, upto_most};
+ghost use Rattle.vz_display.specs.Displayed.{shown, cost, removed_with};
 
 use crate::Display;
 use crate::display::next_buffer;
@@ -21,14 +21,11 @@ impl Display {
     ) -> Result<(), Memory>
         requires { (P.pictured p.now).size ≡ self.old.shown.turns.size }
         ensures shown { OnOk result (self.new.shown ≡ shown self.old.shown (P.pictured p.now)) }
-        ensures counted { OnOk result
-            (steps.new ≡ steps.old + steps_for self.old.shown (P.pictured p.now).changed) }
-        ensures removed { OnOk result
-            (self.new.removed ≡ upto_most (self.old.removed + P.gone p.now)) }
+        ensures counted { OnOk result (steps.new ≡ steps.old + cost self.old (P.pictured p.now)) }
+        ensures removed { OnOk result (self.new.removed ≡ removed_with self.old (P.gone p.now)) }
     {
         let _proper = p.size();
-        let damage = p.damage();
-        self.queue.add_damage(&damage);
+        self.queue.add_damage(&p.damage());
         let area = self.queue.stale();
         let (mut buffer, made) = next_buffer(alloc, self.size, &mut self.kept, steps)?;
         p.paint_alone(alloc, area, &mut buffer, steps)?;

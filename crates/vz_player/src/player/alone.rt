@@ -3,7 +3,7 @@ ghost use Rattle.std.specs.Prelude.{◌≡◌, ◌+◌, false, is_some, IfOk, If
 ghost use Rattle.std.specs.Option.{option_map};
 ghost use Rattle.vz_rules.specs.declared.entry.Event.TheVariants as event;
 ghost use Rattle.vz_rules.specs.Step.{NamesClient};
-ghost use Rattle.vz_player.specs.Played.{played_on, painted_by, shown_with, steps_with, Writes, StopsAt};
+ghost use Rattle.vz_player.specs.Played.{played_on, painted_by, Shows, Costs, Writes, StopsAt};
 
 use crate::Player;
 use crate::actors::actor_of;
@@ -17,7 +17,10 @@ use vz_machine::{Machine, Picture};
 use vz_outside::Gate;
 use vz_rules::Event;
 
-impl<M: Machine + Drop> Player<M> {
+impl<M: Machine + Drop> Player<M>
+where
+    M::Picture: Drop,
+{
     /// Takes an event as `turn` does, and paints on the caller's thread alone. So it needs no
     /// runtime, and a static library can call it.
     pub fn turn_alone<G: Gate, L: Ledger>(
@@ -27,8 +30,6 @@ impl<M: Machine + Drop> Player<M> {
         event: Event,
         steps: &mut Steps<L>,
     ) -> Result<bool, Memory>
-    where
-        M::Picture: Drop,
         requires going { self.old.stopped ≡ false }
         requires named { NamesClient self.old.plan event }
         ensures taken { OnOk result (self.new ≡ played_on self.old event) }
@@ -44,8 +45,8 @@ impl<M: Machine + Drop> Player<M> {
         }
     }
 
-    // Draws, and shows the picture if one is drawn, on the caller's thread. It is a separate function, as at its
-    // beginning it clears the room for a picture.
+    // Draws, and shows the picture if one is drawn, on the caller's thread. It is a separate
+    // function, as at its beginning it clears the room for a picture.
     #[inline(never)]
     fn draw_alone<G: Gate, L: Ledger>(
         &mut self,
@@ -53,8 +54,6 @@ impl<M: Machine + Drop> Player<M> {
         gate: &G,
         steps: &mut Steps<L>,
     ) -> Result<bool, Memory>
-    where
-        M::Picture: Drop,
         requires going { self.old.stopped ≡ false }
         ensures taken { OnOk result (self.new ≡ played_on self.old event.Draw) }
         ensures written { IfOk result (λ drawn. Writes self.old self.new drawn) }
@@ -81,18 +80,14 @@ fn show_some_alone<P: Picture + Drop, L: Ledger>(
     steps: &mut Steps<L>,
 ) -> Result<bool, Memory>
     requires { IfSome picture (λ p. (P.pictured p).size ≡ display.old.shown.turns.size) }
-    ensures display { OnOk result
-        (display.new.shown ≡ shown_with display.old.shown (option_map P.pictured picture)) }
-    ensures counted { OnOk result
-        (steps.new ≡ steps.old + steps_with display.old.shown (option_map P.pictured picture)) }
+    ensures display { OnOk result (Shows P.pictured picture display.old.shown display.new.shown) }
+    ensures counted { OnOk result (Costs P.pictured picture display.old.shown steps.old steps.new) }
     ensures drawn { IfOk result (λ drawn. drawn ≡ is_some (option_map P.pictured picture)) }
 {
-    match picture {
-        None => Ok(false),
-        Some(picture) => {
-            let thin = picture.occlude(alloc)?;
-            display.show_alone(alloc, &thin, steps)?;
-            Ok(true)
-        }
-    }
+    let Some(picture) = picture else {
+        return Ok(false);
+    };
+    let thin = picture.occlude(alloc)?;
+    display.show_alone(alloc, &thin, steps)?;
+    Ok(true)
 }

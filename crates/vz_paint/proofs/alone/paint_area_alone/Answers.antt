@@ -1,11 +1,11 @@
-use Rattle.std.proofs.Common.{◌∙◌, [], ◌∷◌, map, ap}
+use Rattle.std.proofs.Common.{◌∙◌, [], ◌∷◌, length, map, ap, arith}
 use Rattle.std.proofs.lemmas.List.Elements.{All-nil, All-push}
 use Rattle.vz_paint.specs.Choice.{seen}
 use Rattle.vz_paint.specs.Strips.{IsBrush, strip_of}
 use Rattle.vz_paint.specs.declared.brush.Brush.{Brush}
 use Rattle.vz_paint.specs.declared.brush.Sheet.{Sheet}
 use Rattle.vz_paint.proofs.Banded.{area_painted, whole_is, room_is}
-use Rattle.vz_paint.proofs.Brushing.{IsReady, are_painters, same_strips, all_able}
+use Rattle.vz_paint.proofs.Brushing.{IsReady, may_put, same_strips, all_able}
 use Rattle.vz_paint.proofs.Grounded.{stands}
 use Rattle.vz_paint.proofs.alone.paint_area_alone.Goals as goal
 
@@ -26,15 +26,16 @@ new-requires-clause-deepest g c =
     (stands c.args.area.now chosen _ c.ground_of-ground.result.color c.ground_of-ground.result.drawn e.same e.whole e.deep c.behind-rest.ensures)
     c.deepest.ensures.value
 
-pub put_rows_alone-requires-clause-able : goal.put_rows_alone-requires-clause-able
-put_rows_alone-requires-clause-able g c =
+pub put_rows_alone-requires : goal.put_rows_alone-requires
+put_rows_alone-requires g c =
     let rest = c.behind-rest.result.now in
     let sheet : Sheet = record { area = c.args.area.now; ground = c.ground_of-ground.result.color; deepest = c.deepest.result } in
     let made = c.in_ok-brush.ensures in
     let one = All-push (IsReady rest sheet) [] c.in_ok-brush.brush (All-nil (IsReady rest sheet)) (made.ops, made.sheet, made.able) in
-    are_painters (λ (b : Brush). IsBrush (map (λ r. r.now) b.ops.now) b.sheet.area b.groups.items)
+    let long = ap length c.from_mut.ensures.value in
+    may_put (λ (b : Brush). IsBrush (map (λ r. r.now) b.ops.now) b.sheet.area b.groups.items)
     (λ (b : Brush). strip_of (map (λ r. r.now) b.ops.now) b.sheet.ground b.sheet.area) c.args.buffer.now.size (map (λ r. r.now) rest) c.ground_of-ground.result.color c.args.area.now
-    c.from_mut.result.now c.requires.inside (all_able rest sheet (c.in_ok-brush.brush ∷ []) c.from_mut.result.now c.from_mut.ensures.value one)
+    c.from_mut.result.now c.requires.inside (omega (arith, long)) (all_able rest sheet (c.in_ok-brush.brush ∷ []) c.from_mut.result.now c.from_mut.ensures.value one)
 
 pub returns-clause-painted : goal.returns-clause-painted
 returns-clause-painted g c =
@@ -46,8 +47,8 @@ returns-clause-painted g c =
     let made = c.in_ok-brush.ensures in
     let one = All-push (IsReady rest sheet) [] c.in_ok-brush.brush (All-nil (IsReady rest sheet)) (made.ops, made.sheet, made.able) in
     let strips = same_strips rest sheet (c.in_ok-brush.brush ∷ []) c.from_mut.result.now c.from_mut.ensures.value one in
-    area_painted a.buffer.now.size a.area.now a.ops.now chosen (map (λ r. r.now) rest) c.ground_of-ground.result.color a.buffer.now.pixels c.put_rows_alone.new.self.pixels c.requires.sides
+    area_painted a.buffer.now.size a.area.now a.ops.now chosen (map (λ r. r.now) rest) c.ground_of-ground.result.color a.buffer.now.pixels c.put_rows_alone.new.self.pixels c.requires.canvas.sides
     c.requires.inside c.as_slice-list.ensures.whole
     (ap (map (λ r. r.now)) c.as_slice-shown.ensures.value ∙ (c.choose.ensures.chosen ∙ ap (seen a.area.now 0) c.as_slice-list.ensures.value))
-    (stands a.area.now chosen _ c.ground_of-ground.result.color c.ground_of-ground.result.drawn e.same e.whole e.deep c.behind-rest.ensures) c.requires.canvas
+    (stands a.area.now chosen _ c.ground_of-ground.result.color c.ground_of-ground.result.drawn e.same e.whole e.deep c.behind-rest.ensures) c.requires.canvas.all
     (c.put_rows_alone.ensures.put (strip_of (map (λ r. r.now) rest) c.ground_of-ground.result.color a.area.now) strips)

@@ -1,10 +1,10 @@
-use Rattle.std.proofs.Common.{◌∙◌, map, ap}
+use Rattle.std.proofs.Common.{◌∙◌, length, map, ap, arith}
 use Rattle.vz_paint.specs.Choice.{seen}
 use Rattle.vz_paint.specs.Strips.{IsBrush, strip_of}
 use Rattle.vz_paint.specs.declared.brush.Brush.{Brush}
 use Rattle.vz_paint.specs.declared.brush.Sheet.{Sheet}
 use Rattle.vz_paint.proofs.Banded.{area_painted, whole_is, room_is}
-use Rattle.vz_paint.proofs.Brushing.{are_painters, same_strips, all_able}
+use Rattle.vz_paint.proofs.Brushing.{may_put, same_strips, all_able}
 use Rattle.vz_paint.proofs.Grounded.{stands}
 use Rattle.vz_paint.proofs.painting.paint_area.Goals as goal
 
@@ -25,13 +25,16 @@ brushes_for-requires-clause-deepest g c =
     (stands c.args.area.now chosen _ c.ground_of-ground.result.color c.ground_of-ground.result.drawn e.same e.whole e.deep c.behind-rest.ensures)
     c.deepest.ensures.value
 
-pub put_rows-requires-clause-able : goal.put_rows-requires-clause-able
-put_rows-requires-clause-able g c κs within =
+pub put_rows-requires-after_bounds : goal.put_rows-requires-after_bounds
+put_rows-requires-after_bounds g c κs within =
     let rest = c.behind-rest.result.now in
     let sheet : Sheet = record { area = c.args.area.now; ground = c.ground_of-ground.result.color; deepest = c.deepest.result } in
-    are_painters (λ (b : Brush). IsBrush (map (λ r. r.now) b.ops.now) b.sheet.area b.groups.items)
+    let same = ap length c.as_mut_slice.ensures.value in
+    let many = c.in_ok-brushes.ensures.count in
+    let threads = c.requires.threads in
+    may_put (λ (b : Brush). IsBrush (map (λ r. r.now) b.ops.now) b.sheet.area b.groups.items)
     (λ (b : Brush). strip_of (map (λ r. r.now) b.ops.now) b.sheet.ground b.sheet.area) c.args.buffer.now.size (map (λ r. r.now) rest) c.ground_of-ground.result.color c.args.area.now
-    c.as_mut_slice.result.now c.requires.inside (all_able rest sheet c.in_ok-brushes.brushes.items c.as_mut_slice.result.now c.as_mut_slice.ensures.value c.in_ok-brushes.ensures.each)
+    c.as_mut_slice.result.now c.requires.inside (omega (arith, same, many, threads)) (all_able rest sheet c.in_ok-brushes.brushes.items c.as_mut_slice.result.now c.as_mut_slice.ensures.value c.in_ok-brushes.ensures.each)
 
 pub returns-clause-painted : goal.returns-clause-painted
 returns-clause-painted g c =
@@ -41,8 +44,8 @@ returns-clause-painted g c =
     let rest = c.behind-rest.result.now in
     let sheet : Sheet = record { area = a.area.now; ground = c.ground_of-ground.result.color; deepest = c.deepest.result } in
     let strips = same_strips rest sheet c.in_ok-brushes.brushes.items c.as_mut_slice.result.now c.as_mut_slice.ensures.value c.in_ok-brushes.ensures.each in
-    area_painted a.buffer.now.size a.area.now a.ops.now chosen (map (λ r. r.now) rest) c.ground_of-ground.result.color a.buffer.now.pixels c.put_rows.new.self.pixels c.requires.sides
+    area_painted a.buffer.now.size a.area.now a.ops.now chosen (map (λ r. r.now) rest) c.ground_of-ground.result.color a.buffer.now.pixels c.put_rows.new.self.pixels c.requires.canvas.sides
     c.requires.inside c.as_slice-list.ensures.whole
     (ap (map (λ r. r.now)) c.as_slice-shown.ensures.value ∙ (c.choose.ensures.chosen ∙ ap (seen a.area.now 0) c.as_slice-list.ensures.value))
-    (stands a.area.now chosen _ c.ground_of-ground.result.color c.ground_of-ground.result.drawn e.same e.whole e.deep c.behind-rest.ensures) c.requires.canvas
+    (stands a.area.now chosen _ c.ground_of-ground.result.color c.ground_of-ground.result.drawn e.same e.whole e.deep c.behind-rest.ensures) c.requires.canvas.all
     (c.put_rows.ensures.put (strip_of (map (λ r. r.now) rest) c.ground_of-ground.result.color a.area.now) strips)

@@ -1,18 +1,9 @@
-use Rattle.std.proofs.Common.{length, ap, sym, subst, ◌+ℤ◌, ◌≤ℤ◌, arith}
 use Rattle.vz_buffers.specs.Canvas.{Canvas}
-use Rattle.vz_buffers.proofs.Banding.{area_fits}
+use Rattle.vz_buffers.proofs.Filling.{may_fill}
 use Rattle.vz_buffers.proofs.buffer.Buffer.put_rows_alone.Goals as goal
 
-pub paint_alone-requires-clause-inside : goal.paint_alone-requires-clause-inside
-paint_alone-requires-clause-inside g c =
-    let items = c.self.inside.pixels.items in
-    let own : Canvas = record { size = c.self.inside.size; pixels = items } in
-    let place = c.place_of-place in
-    let bottom = subst (λ (k : Canvas). (c.args.area.now.y +ℤ c.args.area.now.h) ≤ℤ k.size.h) (sym c.self.view_is) c.requires.bottom in
-    let fits =
-    area_fits own c.args.area.now.y c.args.area.now.h place.result.top c.height.result place.result.width c.self.invariant c.requires.top c.requires.sides.1 bottom place.ensures.top
-    c.height.ensures.value place.ensures.width
-    in
-    let all = fits.1 in
-    let same = ap length c.deref_mut.ensures.value in
-    omega (arith, all, same)
+pub paint_alone-requires : goal.paint_alone-requires
+paint_alone-requires g c =
+    let own : Canvas = record { size = c.self.inside.size; pixels = c.self.inside.pixels.items } in
+    let place = c.place_of-place.ensures in
+    may_fill _ _ _ _ _ _ own _ _ c.self.view_is c.self.invariant c.requires place.width place.left place.top place.wide c.height.ensures.value c.deref_mut.ensures.value
