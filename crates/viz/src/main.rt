@@ -25,8 +25,7 @@ const LARGE: usize = 33_000_000;
 
 /// Asks for a large piece of memory and gives it back untouched. From then on the C library keeps
 /// pieces up to that size as they are given back, where it would else return each large one to the
-/// system: the buffers of the display are then made where the files were read, in memory that is
-/// there already.
+/// system: what comes after the files were read is then made in memory that is there already.
 fn keep_memory<R: AllocGlobal>(rt: &R) {
     if let Ok(piece) = Vec::<u8>::with_capacity(rt.alloc(), LARGE) {
         drop(piece);

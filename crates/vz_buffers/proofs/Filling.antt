@@ -1,5 +1,5 @@
 -- Painting the rows of an area into the pixels of a display.
-use Rattle.std.proofs.Common.{◌≡◌, ℕ, ◌+◌, ◌*◌, ◌≤◌, ℤ, nat_abs, List, ◌++◌, length, refl, ap, sym, subst, arith}
+use Rattle.std.proofs.Common.{◌≡◌, ℕ, ◌+◌, ◌*◌, nat_abs, List, ◌++◌, length, refl, ap, sym, subst, arith}
 use Rattle.vz_geom.specs.Rectangle.{Rectangle}
 use Rattle.vz_pixels.specs.Colour.{Colour}
 use Rattle.vz_buffers.specs.declared.bands.Place.{Place}

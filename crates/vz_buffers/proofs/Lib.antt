@@ -1,4 +1,5 @@
 mod Places
+mod Heads
 pub mod Banding
 mod Filling
 pub mod Turning

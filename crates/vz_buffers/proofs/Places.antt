@@ -1,5 +1,5 @@
 -- Where the pixels of a row stand.
-use Rattle.std.proofs.Common.{◌≡◌, ℕ, ◌+◌, ◌*◌, ◌≤◌, ◌<◌, ℤ, pos, ◌+ℤ◌, ◌≤ℤ◌, ◌<ℤ◌, nat_abs, length, arith, subst, sym, refl, get_or, slice_get, Some}
+use Rattle.std.proofs.Common.{◌≡◌, ℕ, ◌+◌, ◌*◌, ◌≤◌, ◌<◌, ℤ, pos, ◌+ℤ◌, ◌≤ℤ◌, ◌<ℤ◌, nat_abs, length, arith, subst, sym, refl, ◌∙◌, ap, List, get_or, slice_index_or, slice_get, Some}
 use Rattle.std.proofs.Math.Nat.{mul-le-mul_right}
 use Rattle.std.proofs.lemmas.Int.{ints}
 use Rattle.std.proofs.lemmas.Option.{slice_get_read}
@@ -47,3 +47,12 @@ read b c same x y place p low stands is =
     let P : Canvas → Type 0 = λ k. slice_get k.pixels (pixel_place k.size x y) ≡ Some p in
     let there : slice_get b.pixels place ≡ Some p = slice_get_read b.pixels (length b.pixels) place p refl low is in
     subst P same (subst (λ (n : ℕ). slice_get b.pixels n ≡ Some p) stands there)
+
+-- a span of a row begins inside it, or at its end
+pub span_left : (x : ℤ) (n : ℕ) (w : ℤ) → (x +ℤ pos n) ≤ℤ w → x ≤ℤ w
+span_left x n w h = omega (arith, ints)
+
+-- the same of pixels that are those of the canvas
+pub read_in : (b c : Canvas) → b ≡ c → (x y : ℤ) (place : ℕ) (p : Colour) (xs : List Colour) → xs ≡ b.pixels → place < length b.pixels → place ≡ pixel_place b.size x y → p ≡ slice_index_or xs place p
+    → slice_get c.pixels (pixel_place c.size x y) ≡ Some p
+read_in b c same x y place p xs is low stands found = read b c same x y place p low stands (found ∙ ap (λ l. slice_index_or l place p) is)

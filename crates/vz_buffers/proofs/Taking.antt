@@ -9,7 +9,7 @@ use Rattle.vz_pixels.specs.Colour.{Colour}
 use Rattle.vz_buffers.specs.declared.bands.Place.{Place}
 use Rattle.vz_buffers.specs.declared.crew.Parts.{Parts}
 use Rattle.vz_buffers.specs.Bands.{Strip, FitsIn, MayPaint, ArePainted, rows_put, rows_from}
-use Rattle.vz_buffers.specs.Taken.{Work, Aim, IsReady, AreReady, IsPlaced, IsBand, IsTarget, MayHold, drawn, drawn_if, strip_of}
+use Rattle.vz_buffers.specs.Taken.{Work, IsReady, AreReady, IsPlaced, IsBand, MayHold, drawn, drawn_if, strip_of}
 use Rattle.vz_buffers.proofs.Banding.{rows_both, shift}
 
 -- the first part of a band

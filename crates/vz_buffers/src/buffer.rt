@@ -9,7 +9,8 @@ ghost use Rattle.vz_geom.specs.Rectangle.{area_of};
 
 mod alone;
 
-use crate::bands::{height, paint_within, place_of};
+use crate::bands::{height, place_of};
+use crate::pages::{black, paint_memory, pixels_in, put, room_for};
 use crate::{RowPainter, Steps};
 use std::alloc::Global;
 use std::marker::Model;
@@ -20,23 +21,27 @@ use vz_geom::{Rect, Size};
 use vz_pixels::{Pixel, bytes_of};
 
 /// The pixels of a display, row by row from the top, and each row from left to right. They lie in
-/// memory as the bytes that a file of frames has, so that a frame is written without a copy.
+/// memory as the bytes that a file of frames has, so that a frame is written without a copy. Those
+/// of a large display begin a page of memory.
 #[derive(Drop)]
 pub struct Buffer {
     size: Size,
-    pixels: Vec<Pixel>,
+    memory: Vec<Pixel>,
 }
 
 impl Model for Buffer {
+    ghost use Rattle.std.specs.Prelude.{◌≤◌, length};
     ghost use Rattle.vz_buffers.specs.Canvas.{Canvas, IsCanvas};
+    ghost use Rattle.vz_buffers.specs.Pages.{behind_head};
+    ghost use Rattle.vz_buffers.specs.declared.pages.TheConstants.{HEAD};
 
     ghost Value = { Canvas };
 
-    ghost view = { λ b. record { size = b.size; pixels = b.pixels.items } };
+    ghost view = { λ b. record { size = b.size; pixels = behind_head b.memory.items } };
 
-    ghost invariant = { λ b. IsCanvas (record {
+    ghost invariant = { λ b. (HEAD ≤ length b.memory.items) × IsCanvas (record {
       size = b.size;
-      pixels = b.pixels.items;
+      pixels = behind_head b.memory.items;
     }) };
 }
 
@@ -51,9 +56,9 @@ impl Buffer {
         ensures err { OnErr result (steps.new ≡ steps.old) }
     {
         let count = pixels_of(&size);
-        let pixels = vec![in alloc; Pixel::black(); count]?;
+        let memory = black(alloc, count)?;
         steps.add(count as u64);
-        Ok(Buffer { size, pixels })
+        Ok(Buffer { size, memory })
     }
 
     /// The width and the height in pixels.
@@ -76,7 +81,7 @@ impl Buffer {
         ensures counted { steps.new ≡ steps.old + length row.now }
     {
         let at = place(&self.size, x, y);
-        put(&mut self.pixels, at, row);
+        put(&mut self.memory, at, row);
         steps.add(row.len() as u64);
     }
 
@@ -97,7 +102,7 @@ impl Buffer {
         ensures counted { steps.new ≡ steps.old + area_of area.now }
     {
         let place = place_of(&self.size, area);
-        paint_within(rt, place, height(area), painters, &mut self.pixels);
+        paint_memory(rt, place, height(area), painters, &mut self.memory);
         steps.add(area.area());
     }
 
@@ -109,7 +114,7 @@ impl Buffer {
         requires bottom { y <ℤ self.now.size.h }
         ensures { slice_get self.now.pixels (pixel_place self.now.size x y) ≡ Some result }
     {
-        self.pixels[place(&self.size, x, y)]
+        pixels_in(&self.memory)[place(&self.size, x, y)]
     }
 
     /// The bytes of all pixels, row by row from the top, four bytes a pixel: red, green, blue and
@@ -117,18 +122,18 @@ impl Buffer {
     pub fn bytes(&self) -> &[u8]
         ensures { result.now ≡ flat_map colour_bytes self.now.pixels }
     {
-        bytes_of(self.pixels.as_slice())
+        bytes_of(pixels_in(&self.memory))
     }
 
     /// A second buffer with the same pixels. The only error is `Memory`.
     pub(crate) fn copy(&self, alloc: Global) -> Result<Buffer, Memory>
         ensures { IfOk result (λ b. b ≡ self.now) }
     {
-        let mut pixels = Vec::with_capacity(alloc, self.pixels.len())?;
-        pixels.extend_from_slice(&self.pixels)?;
+        let mut memory = room_for(alloc, self.memory.len())?;
+        memory.extend_from_slice(&self.memory)?;
         Ok(Buffer {
             size: self.size,
-            pixels,
+            memory,
         })
     }
 }
@@ -151,13 +156,4 @@ fn place(size: &Size, x: i32, y: i32) -> usize
     ensures value { result ≡ pixel_place size.now x y }
 {
     y.unsigned_abs() as usize * size.w.unsigned_abs() as usize + x.unsigned_abs() as usize
-}
-
-/// Replaces the pixels from index `at` on by a span.
-#[tactic(auto, unfolding(crate::specs::Canvas::span_put))]
-fn put(pixels: &mut [Pixel], at: usize, row: &[Pixel])
-    requires { (at + length row.now) ≤ length pixels.old }
-    ensures { pixels.new ≡ span_put pixels.old at row.now }
-{
-    pixels[at..at + row.len()].copy_from_slice(row);
 }

@@ -7,6 +7,7 @@ mod buffer;
 mod crew;
 mod holding;
 pub mod laws;
+mod pages;
 mod queue;
 mod shared;
 mod slots;

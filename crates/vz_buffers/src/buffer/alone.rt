@@ -3,7 +3,8 @@ ghost use Rattle.std.specs.Prelude.{◌≡◌, ◌+◌};
 ghost use Rattle.vz_geom.specs.Rectangle.{area_of};
 ghost use Rattle.vz_buffers.specs.Bands.{MayPut, ArePut};
 
-use crate::bands::{height, paint_alone, place_of};
+use crate::bands::{height, place_of};
+use crate::pages::paint_memory_alone;
 use crate::{Buffer, RowPainter, Steps};
 use std::sync::ledger::Ledger;
 use vz_geom::Rect;
@@ -23,7 +24,7 @@ impl Buffer {
         ensures counted { steps.new ≡ steps.old + area_of area.now }
     {
         let place = place_of(&self.size, area);
-        paint_alone(place, height(area), painters, &mut self.pixels);
+        paint_memory_alone(place, height(area), painters, &mut self.memory);
         steps.add(area.area());
     }
 }
