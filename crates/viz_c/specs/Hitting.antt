@@ -1,5 +1,5 @@
 -- What is hit at a point after the events of a schedule, and what C is told of it.
-use Rattle.std.specs.Prelude.{◌≡◌, ◌++◌, ◌/◌, ◌%◌, ℕ, Some, None, Result, Ok, Err, List, map}
+use Rattle.std.specs.Prelude.{◌≡◌, ◌/◌, ◌%◌, ℕ, Some, None, Result, Ok, Err, List}
 use Rattle.vz_geom.specs.declared.Point.{Point}
 use Rattle.vz_geom.specs.declared.Size.{Size}
 use Rattle.vz_ids.specs.declared.SurfaceId.{SurfaceId}
@@ -8,7 +8,6 @@ use Rattle.vz_rules.specs.declared.entry.Event.{Event}
 use Rattle.vz_rules.specs.Hit.{Target as Hit}
 use Rattle.vz_rules.specs.Plan.{Plan}
 use Rattle.vz_rules.specs.Whole.{hit_last}
-use Rattle.vz_player.specs.Tested.{Tested}
 use Rattle.viz_run.specs.Refusals.{plan_read}
 use Rattle.viz_run.specs.Schedule.{events_of}
 use Rattle.viz_run.specs.declared.refused.InputError.{InputError}
@@ -28,12 +27,6 @@ IsHitIn p events point hit = (h : List Entry) × IsHistory p events h × (hit �
 abbrev pub Hits : Size → List (List ℕ) → List ℕ → Point → Hit → Type 0
 Hits size files schedule point hit =
     (schedule_refused_of size files schedule ≡ None) × IsHitIn (plan_read size files) (events_of schedule) point hit
-
--- the tester has the same plan and point, and has taken these events in addition
-pub record HasTested (events : List Event) (old new : Tested) : Type 0 where
-  pub plan : new.plan ≡ old.plan
-  pub point : new.point ≡ old.point
-  pub history : map (λ (e : Entry). e.event) new.history ≡ map (λ (e : Entry). e.event) old.history ++ events
 
 -- a surface and a point in it, as C sees them
 abbrev pub target_of : SurfaceId → Point → Target

@@ -9,7 +9,8 @@ ghost use Rattle.viz_run.specs.declared.refused.Refused.{Refused as Refusal};
 ghost use Rattle.vz_rules.specs.Plan.{IsPlan};
 ghost use Rattle.vz_rules.specs.Step.{NamesClient};
 ghost use Rattle.viz_c.specs.Calls.{cut, schedule_refused_of};
-ghost use Rattle.viz_c.specs.Hitting.{Hits, IsHitIn, HasTested, target_of, IsHitTold, IsFoundTold};
+ghost use Rattle.viz_run.specs.Taken.{HasTested};
+ghost use Rattle.viz_c.specs.Hitting.{Hits, IsHitIn, target_of, IsHitTold, IsFoundTold};
 
 use crate::answer::{Cause, DONE, NOTHING, REFUSED, tell_error};
 use crate::call::cut;

@@ -1,5 +1,5 @@
 -- Answers that are known in part.
-use Rattle.std.proofs.Common.{◌≡◌, Result, Ok, Err, OnOk, OnErr, IsErrAnd, arith}
+use Rattle.std.proofs.Common.{◌≡◌, Result, Ok, Err, OnOk, OnErr, IsErrAnd, sym, subst, arith}
 use Rattle.std.proofs.lemmas.Bool.Decides.{nat_tests}
 
 -- what holds where it went well
@@ -13,3 +13,8 @@ on_err r _ _ a f = grind (arith, nat_tests)
 -- an error that is handed on
 pub err_as : {T E : Type 0} (e : E) (r : Result T E) (P : Result T E → Type 0) → IsErrAnd r (λ f. f ≡ e) → P (Err e) → OnErr r (P r)
 err_as e r _ is p = grind (arith, nat_tests)
+
+-- the same of what holds of the whole result
+pub as_err : {T E : Type 0} (e : E) (r : Result T E) (P : Result T E → Type 0) → IsErrAnd r (λ f. f ≡ e) → P (Err e) → P r
+as_err e (Ok x) P is p = absurd is
+as_err e (Err f) P is p = subst (λ x. P (Err x)) (sym is) p

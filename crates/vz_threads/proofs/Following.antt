@@ -1,5 +1,5 @@
 -- How the display's rounds follow one another.
-use Rattle.std.proofs.Common.{◌⊎◌, inl, inr, ℕ, Bool, List, [], ◌∷◌, ◌++◌, refl, ap, sym, ◌∙◌, subst, append-nil, append_assoc, Result, Err, arith}
+use Rattle.std.proofs.Common.{◌≡◌, ◌⊎◌, inl, inr, ℕ, Bool, List, [], ◌∷◌, ◌++◌, refl, ap, sym, ◌∙◌, subst, append-nil, append_assoc, Result, Err, arith}
 use mathlib.Core.List.{IsPrefix}
 use Rattle.vz_outside.specs.{declared.shelf.ShelfError.ShelfError, declared.shelf.ShelfError.TheVariants.Memory}
 use Rattle.vz_rules.specs.declared.entry.Event.TheVariants as event
@@ -26,6 +26,10 @@ same_then a b c x y = grind (arith, nat_tests, prefix_then a.seen b.seen c.seen 
 -- cut short still, where the display makes no entry more
 pub cut_later : (k : Setup) (start now : Outlook) (d d' : Owner DisplayTotals) (h : List Entry) (r : Result (Unit {0}) ShelfError) → IsCut k start now d h r → IsSameOwner d d' → MakesNone d d' → IsCut k start now d' h r
 cut_later k start now d d' h r cut same none = grind (arith, nat_tests, common_steps, prefix_then)
+
+-- also where its outlet is closed then
+pub cut_stopped : (k : Setup) (start was now : Outlook) (d d' : Owner DisplayTotals) (h : List Entry) (r : Result (Unit {0}) ShelfError) → IsCut k start was d h r → IsSameOwner d d' → MakesNone d d' → now ≡ was → IsCut k start now d' h r
+cut_stopped k start was now d d' h r cut same none is = subst (λ (s : Outlook). IsCut k start s d' h r) (sym is) (cut_later k start was d d' h r cut same none)
 
 -- the history that a begin-frame leaves
 pub begun_at : (k : Setup) (start now : Outlook) (d d' : Owner DisplayTotals) (h : List Entry) → IsAt k start now d h → IsSameOwner d d' → (x : Displays d d' event.Begin) → IsAt k start now d' (x.before ++ x.made ∷ [])

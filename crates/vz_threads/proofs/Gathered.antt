@@ -15,7 +15,7 @@ use Rattle.vz_desk.specs.{Owners.Owner, Owners.fresh, Owners.fresh_from, Owners.
 use Rattle.vz_threads.specs.{Courses.frames_of, Outlets.Outlook, Outlets.file_of, Tails.TookAll}
 use Rattle.vz_threads.specs.Crews.{IsAtWork, IsCrew, CrewWorksOn, messages_of, HasTakenAll}
 use Rattle.vz_threads.specs.Rounds.{Setup, IsCut, HasPlayed, HasEnded, PlaysAll, IsCutShort}
-use Rattle.vz_threads.specs.Runs.{IsReady, IsOpened, IsUpToTail, IsCutThere, IsRestOf, HasRun}
+use Rattle.vz_threads.specs.Runs.{IsReady, IsOpened, CanPlay, IsUpToTail, IsCutThere, IsRestOf, HasRun}
 use Rattle.vz_threads.proofs.{Ending.paced_on, Going.amid, Showing.shown_amid, Showing.frames_amid}
 use Rattle.vz_desk.proofs.Owning.{same_plan}
 
@@ -128,6 +128,15 @@ each_took id p q messages a b h counts are works took gathered c from upto =
         ∙ get_or-map (λ (o : Owner Totals). o.number) (fresh_from id p 1 (length messages)) (c - 1) none 0 (omega (arith, low, many, fresh_length id p 1 (length messages)))
         ∙ ap (λ (o : Owner Totals). o.number) (fresh_at id p 1 (length messages) (c - 1) none (omega (arith, low, many)))
         ∙ omega (arith, from)
+
+-- all is there for the rounds
+pub can_play : (k : Setup) (paced : Bool) (start : Outlook) (messages : List ℕ) (id : TableId) (callers : ℕ) (ends : List (Owner Totals)) (d : Owner DisplayTotals) → IsReady k start → IsOpened k.plan messages id callers ends d
+    → CanPlay id messages paced start ends d
+can_play k paced start messages id callers ends d ready opened = record {
+  crew = fresh_crew id k.plan messages ends opened.counts opened.ends_are;
+  desk = ap (λ (o : Owner DisplayTotals). o.desk) opened.display_is;
+  begun = (k, start, subst (λ (o : Owner DisplayTotals). HasPlayed k paced start start o 0) (sym opened.display_is) (none_played k paced start id ready));
+}
 
 -- The display's end
 

@@ -12,7 +12,7 @@ use Rattle.vz_rules.proofs.Runs.{world-more}
 use Rattle.vz_player.specs.Played.{Played, played_on, next_entry, frames_of, painted_by}
 use Rattle.vz_player.specs.Taken.{played_all, StopsAmong, AddsFrames, AddsFramesFront}
 use Rattle.vz_player.proofs.{Adding.HasAdded, Adding.none_added, Adding.more_added, Adding.front_added, Growing.frames_then_frames, Growing.no_frame}
-use Rattle.vz_threads.specs.Tails.{AreAwaited, AddsShow, GoesOn, AllComeDue}
+use Rattle.vz_threads.specs.Tails.{AreAwaited, AddsTail, AddsShow, GoesOn, AllComeDue}
 use Rattle.vz_threads.proofs.Coming_due.{latest, none_late, begin_comes_due, begin_nears}
 use Rattle.vz_desk.proofs.Displaying.{event_is as event_of}
 
@@ -143,7 +143,14 @@ one_goes old mid new v is goes = then_goes old mid new (next_entry old v ∷ [])
 
 -- The whole tail
 
--- The plan, and that nothing stopped the player, stay
+-- a drawing behind the begin-frames is the tail
+pub tail_added : (old mid new : Played) → HasBegun old mid → some_waits (world mid.plan mid.history) ≡ false → AddsShow mid new → AddsTail old new
+tail_added old mid new b rests s = record {
+  begins = b.begins;
+  last = s.last;
+  grown = s.grown ∙ ap (λ (p : Played). record p { history = p.history ++ s.last }) b.grown ∙ ap (λ (l : List Entry). record old { history = l }) (append_assoc old.history b.begins s.last);
+  tail = record { begun = b.begun; none_waits = subst (λ (p : Played). some_waits (world p.plan p.history) ≡ false) b.grown rests; is_show = s.is_show };
+}
 
 -- The begin-frames of a player
 
@@ -165,10 +172,3 @@ next_begins slot old mid new counted count next a b c before waits is adds kept 
   due = next_due mid new is before.due;
   written = then_written slot old mid counted count a b before.written new next c adds kept ran painted;
 }
-
--- the frames of one call
-pub one_written :
-    (slot : ℕ) (old new : Played) (count next : ℕ) (a b : Shelved) → a.mode slot ≡ Some Writing → AddsFrames old new (a.name slot) a b → KeepsOthers (a.name slot) a b → Ran a b → next + painted_by old ≡ count + painted_by new
-    → HasWritten slot old count a new next b
-one_written slot old new count next a b opened adds kept ran painted =
-    then_written slot old old count count a a (none_written slot old count a opened) new next b adds kept ran painted

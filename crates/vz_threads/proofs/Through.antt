@@ -1,6 +1,6 @@
 -- A run whose frames went through a pipe: what the display sent is what was written.
 use Rattle.std.proofs.Common.{◌≡◌, ℕ, ◌≤◌, Bool, List, [], ◌∷◌, ◌++◌, length, take, Option, Some, Result, Ok, Err, All, IsTrue, refl, sym, ap, ◌∙◌, subst, arith, append-nil, append_assoc, take_all}
-use Rattle.std.specs.Prelude.{unwrap_or}
+use Rattle.std.specs.Prelude.{unwrap_or, None, IfSome, IfNone}
 use Rattle.vz_buffers.specs.Canvas.{Canvas}
 use Rattle.std.proofs.{lemmas.Grind.flat_map-append, lemmas.Bool.Decides.nat_tests}
 use mathlib.Core.List.{IsPrefix}
@@ -162,3 +162,8 @@ pipe_stays a b x y same is was = ap (λ (o : Option (PipeId Canvas)). unwrap_or 
 -- a run that was given up before it began, told of the display that was given back
 pub given_up_is : (k : Setup) (rounds : ℕ) (paced : Bool) (start now : Outlook) (h : List Entry) (r : Result (Unit {0}) ShelfError) → HasRun k rounds paced start start h (Err Memory) → now ≡ start → r ≡ Err Memory → HasRun k rounds paced start now h r
 given_up_is k rounds paced start now h r run same is = subst (λ (s : Outlook). HasRun k rounds paced start s h r) (sym same) (subst (HasRun k rounds paced start start h) (sym is) run)
+
+-- what a pipe's taker has begins what it has after it took one more, or none
+pub longer_taken : (r : Option Canvas) (first old new : List Canvas) → IfSome r (λ x. new ≡ old ++ x ∷ []) → IfNone r (new ≡ old) → IsPrefix first old → IsPrefix first new
+longer_taken (Some x) first old new some none begins = (begins.0 ++ x ∷ [], sym (some ∙ (ap (λ l. l ++ x ∷ []) (sym begins.1) ∙ append_assoc first begins.0 (x ∷ []))))
+longer_taken None first old new some none begins = (begins.0, begins.1 ∙ sym none)

@@ -9,6 +9,7 @@ use Rattle.vz_machine.specs.Pictured.{Pictured}
 use Rattle.vz_display.specs.Displayed.{Displayed, shown, steps_for}
 use Rattle.vz_player.specs.Shown.{ShowsFrame, frame_on}
 use Rattle.vz_pipe.specs.Ends.{PipeId}
+use Rattle.vz_threads.specs.declared.outlet.FrameOutlet.{FrameOutlet}
 
 -- the fixed part of an outlet: the file's slot, the size of the frames, which shelf (or which
 -- sender) and which counter it borrows, and through which pipe the frames go, if there is one
@@ -60,4 +61,14 @@ outlook slot size display shelf steps =
       display = display;
       shelf = shelf;
       steps = steps;
+    }
+
+-- the state of such an outlet, with the shelf and the counter that it borrows
+abbrev pub framed : {F L : Type 0} → (F → Shelved) → FrameOutlet F L → Outlook
+framed shelved o =
+    record {
+      fixed = record { slot = o.file.slot; size = o.file.size; shelf = o.shelf.ghost_name; steps = o.steps.ghost_name; pipe = None };
+      display = o.display.shown;
+      shelf = shelved o.shelf.now;
+      steps = o.steps.now;
     }

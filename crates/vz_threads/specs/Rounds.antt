@@ -129,6 +129,11 @@ abbrev pub PlaysRounds : Bool → Outlook → Owner DisplayTotals → Outlook �
 PlaysRounds paced was old now new rounds =
     (k : Setup) (start : Outlook) → HasPlayed k paced start was old 0 → HasPlayed k paced start now new rounds
 
+-- however many rounds were made before, paced or not, begin-frames have ended now
+abbrev pub EndsRounds : Outlook → Owner DisplayTotals → Outlook → Owner DisplayTotals → Type 0
+EndsRounds was old now new =
+    (k : Setup) (paced : Bool) (start : Outlook) (rounds : ℕ) → HasPlayed k paced start was old rounds → HasEnded k paced start now new rounds
+
 -- if no round was made before, so many are made now, and begin-frames have ended
 abbrev pub PlaysAll : Bool → Outlook → Owner DisplayTotals → Outlook → Owner DisplayTotals → ℕ → Type 0
 PlaysAll paced was old now new rounds =

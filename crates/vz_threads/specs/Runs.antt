@@ -16,9 +16,9 @@ use Rattle.vz_desk.specs.declared.totals.Totals.{Totals}
 use Rattle.vz_desk.specs.Totals.{DisplayTotals, no_display_totals}
 use Rattle.vz_desk.specs.Owners.{Owner, fresh, fresh_from, IsSameOwner}
 use Rattle.vz_threads.specs.Courses.{frames_of}
-use Rattle.vz_threads.specs.Crews.{CrewWorksOn}
+use Rattle.vz_threads.specs.Crews.{IsCrew, CrewWorksOn}
 use Rattle.vz_threads.specs.Outlets.{Outlook, file_of}
-use Rattle.vz_threads.specs.Rounds.{Setup, MayBegin, AreShown, PlaysAll, IsCutShort}
+use Rattle.vz_threads.specs.Rounds.{Setup, MayBegin, AreShown, HasBegunPlay, PlaysAll, IsCutShort}
 use Rattle.vz_threads.specs.Tails.{TookAll, IsTail}
 
 -- an outlet can show a run, and has shown nothing yet
@@ -53,15 +53,27 @@ pub record IsOpened (p : Plan) (messages : List ℕ) (id : TableId) (callers : �
   pub ends_are : ends ≡ fresh_from id p 1 (length messages)
   pub display_is : display ≡ fresh id p no_display_totals 0
 
+-- the rounds of a run can be made: the clients' ends are at work, and the display's end, which is
+-- of the same desk, has made no round yet
+pub record CanPlay (id : TableId) (messages : List ℕ) (paced : Bool) (start : Outlook) (ends : List (Owner Totals)) (d : Owner DisplayTotals) : Type 0 where
+  pub crew : IsCrew id messages ends
+  pub desk : d.desk ≡ id
+  pub begun : HasBegunPlay paced start d
+
+-- from these ends and this outlet the rounds of a run led to those: all rounds were made, or an
+-- error cut them short
+pub record PlaysOut (rounds : ℕ) (paced : Bool) (start now : Outlook) (ends ends' : List (Owner Totals)) (d d' : Owner DisplayTotals) (played : Result (Unit {0}) ShelfError) : Type 0 where
+  pub works : CrewWorksOn ends ends'
+  pub same : IsSameOwner d d'
+  pub whole : OnOk played (PlaysAll paced start d now d' rounds)
+  pub cut : OnErr played (IsCutShort paced start d now d' played)
+
 -- a desk was opened with these ends, and after all threads of its run have ended these others are
 -- there: the clients' ends, the display's end, the outlet, and how the rounds ended
 pub record WasPlayed (k : Setup) (rounds : ℕ) (paced : Bool) (start now : Outlook) (messages : List ℕ) (id : TableId) (callers : ℕ) (ends ends' : List (Owner Totals)) (d d' : Owner DisplayTotals) (played : Result (Unit {0}) ShelfError) : Type 0 where
   pub ready : IsReady k start
   pub opened : IsOpened k.plan messages id callers ends d
-  pub works : CrewWorksOn ends ends'
-  pub same : IsSameOwner d d'
-  pub whole : OnOk played (PlaysAll paced start d now d' rounds)
-  pub cut : OnErr played (IsCutShort paced start d now d' played)
+  pub out : PlaysOut rounds paced start now ends ends' d d' played
 
 -- the result after the remaining messages were taken: an error stays, and otherwise only want of
 -- memory may come

@@ -30,13 +30,6 @@ pub record AddsTail (old new : Played) : Type 0 where
   pub grown : new ≡ record old { history = old.history ++ (begins ++ last) }
   pub tail : IsTail old.plan old.history begins last
 
--- the player's history has such begin-frames in addition, and after them none waits
-pub record AddsBegins (old new : Played) : Type 0 where
-  pub begins : List Entry
-  pub grown : new ≡ record old { history = old.history ++ begins }
-  pub begun : AreAwaited old.plan old.history begins
-  pub none_waits : IsFalse (some_waits (world old.plan (old.history ++ begins)))
-
 -- the player's history has one more drawing
 pub record AddsShow (old new : Played) : Type 0 where
   pub last : List Entry

@@ -1,8 +1,6 @@
 //! The threads of the clients and the rounds of the display, at the same time.
-ghost use Rattle.std.specs.Prelude.{◌≡◌, ◌≤◌, [], length, vec_len, vec_capacity, OnOk, OnErr};
-ghost use Rattle.vz_desk.specs.Owners.{IsSameOwner};
-ghost use Rattle.vz_threads.specs.Crews.{IsCrew, CrewWorksOn};
-ghost use Rattle.vz_threads.specs.Rounds.{HasBegunPlay, PlaysAll, IsCutShort};
+ghost use Rattle.std.specs.Prelude.{◌≡◌, ◌≤◌, [], length, vec_len, vec_capacity};
+ghost use Rattle.vz_threads.specs.Runs.{CanPlay, PlaysOut};
 
 use crate::crew::{Started, finish_all, start_all};
 use crate::halt::Halt;
@@ -49,33 +47,24 @@ pub(crate) fn play_beside<
 ) -> Beside<M, O>
 where
     M::Picture: Send + Drop,
-    requires crew { IsCrew desk.now.id messages.now ends.items }
+    requires play { CanPlay desk.now.id messages.now course.paced (O.stands outlet)
+        ends.items display }
     requires flags { length refused.now ≡ length messages.now }
     requires room { (started.items ≡ []) × (vec_len ends ≤ vec_capacity started) }
-    requires display { display.desk ≡ desk.now.id }
-    requires begun { HasBegunPlay course.paced (O.stands outlet) display }
-    ensures works { CrewWorksOn ends.items result.ends.items }
-    ensures same { IsSameOwner display result.display }
-    ensures played { OnOk result.played
-        (PlaysAll course.paced (O.stands outlet) display (O.stands result.outlet) result.display course.rounds) }
-    ensures cut { OnErr result.played (IsCutShort course.paced (O.stands outlet) display
-        (O.stands result.outlet) result.display result.played) }
+    ensures played { PlaysOut course.rounds course.paced (O.stands outlet) (O.stands result.outlet)
+        ends.items result.ends.items display result.display result.played }
 {
     thread::scope(
         thread::scope_env(),
         rt,
         |scope| -> Beside<M, O>
-            requires crew { IsCrew desk.now.id messages.now ends.items }
+            requires play { CanPlay desk.now.id messages.now course.paced (O.stands outlet)
+                ends.items display }
             requires flags { length refused.now ≡ length messages.now }
             requires room { (started.items ≡ []) × (vec_len ends ≤ vec_capacity started) }
-            requires display { display.desk ≡ desk.now.id }
-            requires begun { HasBegunPlay course.paced (O.stands outlet) display }
-            ensures works { CrewWorksOn ends.items result.ends.items }
-            ensures same { IsSameOwner display result.display }
-            ensures played { OnOk result.played (PlaysAll course.paced (O.stands outlet) display
-                (O.stands result.outlet) result.display course.rounds) }
-            ensures cut { OnErr result.played (IsCutShort course.paced (O.stands outlet) display
-                (O.stands result.outlet) result.display result.played) }
+            ensures played { PlaysOut course.rounds course.paced (O.stands outlet)
+                (O.stands result.outlet) ends.items result.ends.items display result.display
+                result.played }
         {
             let mut ends = ends;
             let mut started = started;

@@ -1,7 +1,7 @@
 //! A run with the outlet that its course asks for.
 ghost use Rattle.std.specs.Prelude.{◌≡◌, ◌≤◌, [], length, vec_capacity};
 ghost use Rattle.vz_rules.specs.Step.{world};
-ghost use Rattle.vz_threads.specs.Outlets.{outlook};
+ghost use Rattle.vz_threads.specs.Outlets.{outlook, framed};
 ghost use Rattle.vz_threads.specs.Rounds.{Setup};
 ghost use Rattle.vz_threads.specs.Runs.{IsReady, IsOpened, HasRun};
 
@@ -58,51 +58,6 @@ where
         (outlook file.slot file.size result.outlet.shown (F.shelved shelf.new) steps.new)
         result.history.list result.played }
 {
-    if course.piped {
-        return run_piped(
-            rt, opened, messages, course, gate, display, shelf, file, steps,
-        );
-    }
-    run_written(
-        rt, opened, messages, course, gate, display, shelf, file, steps,
-    )
-}
-
-/// Lets the display and the clients work, while the display writes its frames, and gathers the
-/// history. Conditions: those of `run_chosen`.
-fn run_written<M: Machine + Send + Drop, F: Shelf, G: Gate + Sync, L: Ledger, R>(
-    rt: &R,
-    opened: Opened<M>,
-    messages: &[u64],
-    course: Course,
-    gate: &G,
-    display: Display,
-    shelf: &mut F,
-    file: FrameFile,
-    steps: &mut Steps<L>,
-) -> Ran<M, Display>
-where
-    M::Picture: Send + Drop,
-    R: Threads + Wait + AllocGlobal + Sync,
-    requires opened { (k : Setup)
-        × IsReady k (outlook file.slot file.size display.shown (F.shelved shelf.old) steps.old)
-        × IsOpened k.plan messages.now opened.desk.id opened.desk.callers opened.ends.items
-        opened.display }
-    requires room { (opened.started.items ≡ [])
-        × (length messages.now ≤ vec_capacity opened.started) }
-    requires flags { length opened.refused.items ≡ length messages.now }
-    ensures behind { (M.state result.machine).world
-        ≡ world (M.state result.machine).plan result.history.list }
-    ensures plan { (k : Setup) → IsOpened k.plan messages.now opened.desk.id opened.desk.callers
-        opened.ends.items opened.display → (M.state result.machine).plan ≡ k.plan }
-    ensures run { (k : Setup)
-        → IsReady k (outlook file.slot file.size display.shown (F.shelved shelf.old) steps.old)
-        → IsOpened k.plan messages.now opened.desk.id opened.desk.callers opened.ends.items
-        opened.display → HasRun k course.rounds course.paced
-        (outlook file.slot file.size display.shown (F.shelved shelf.old) steps.old)
-        (outlook file.slot file.size result.outlet.shown (F.shelved shelf.new) steps.new)
-        result.history.list result.played }
-{
     let outlet = FrameOutlet {
         display,
         shelf,
@@ -114,7 +69,7 @@ where
         history,
         outlet,
         played,
-    } = run_opened(rt, opened, messages, course, gate, outlet);
+    } = run_framed(rt, opened, messages, course, gate, outlet);
     let FrameOutlet {
         display,
         shelf,
@@ -128,4 +83,37 @@ where
         outlet: display,
         played,
     }
+}
+
+/// Makes a run with a display and the file of its frames. Another thread writes the frames if the
+/// course says so. Conditions: those of `run_chosen`.
+fn run_framed<'a, M: Machine + Send + Drop, F: Shelf + Send, G: Gate + Sync, L: Ledger, R>(
+    rt: &R,
+    opened: Opened<M>,
+    messages: &[u64],
+    course: Course,
+    gate: &G,
+    outlet: FrameOutlet<'a, F, L>,
+) -> Ran<M, FrameOutlet<'a, F, L>>
+where
+    M::Picture: Send + Drop,
+    R: Threads + Wait + AllocGlobal + Sync,
+    requires opened { (k : Setup) × IsReady k (framed F.shelved outlet) × IsOpened k.plan
+        messages.now opened.desk.id opened.desk.callers opened.ends.items opened.display }
+    requires room { (opened.started.items ≡ [])
+        × (length messages.now ≤ vec_capacity opened.started) }
+    requires flags { length opened.refused.items ≡ length messages.now }
+    ensures behind { (M.state result.machine).world
+        ≡ world (M.state result.machine).plan result.history.list }
+    ensures plan { (k : Setup) → IsOpened k.plan messages.now opened.desk.id opened.desk.callers
+        opened.ends.items opened.display → (M.state result.machine).plan ≡ k.plan }
+    ensures run { (k : Setup) → IsReady k (framed F.shelved outlet.entry) → IsOpened k.plan
+        messages.now opened.desk.id opened.desk.callers opened.ends.items opened.display
+        → HasRun k course.rounds course.paced (framed F.shelved outlet.entry)
+        (framed F.shelved result.outlet) result.history.list result.played }
+{
+    if course.piped {
+        return run_piped(rt, opened, messages, course, gate, outlet);
+    }
+    run_opened(rt, opened, messages, course, gate, outlet)
 }

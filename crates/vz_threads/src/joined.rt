@@ -1,8 +1,6 @@
 //! The rounds of a run beside a thread that does something else.
-ghost use Rattle.std.specs.Prelude.{◌≡◌, ◌≤◌, [], length, vec_len, vec_capacity, OnOk, OnErr};
-ghost use Rattle.vz_desk.specs.Owners.{IsSameOwner};
-ghost use Rattle.vz_threads.specs.Crews.{IsCrew, CrewWorksOn};
-ghost use Rattle.vz_threads.specs.Rounds.{HasBegunPlay, PlaysAll, IsCutShort};
+ghost use Rattle.std.specs.Prelude.{◌≡◌, ◌≤◌, [], length, vec_len, vec_capacity};
+ghost use Rattle.vz_threads.specs.Runs.{CanPlay, PlaysOut};
 
 use crate::beside::{Beside, play_beside};
 use crate::crew::Started;
@@ -71,6 +69,7 @@ fn play_with<
 >(
     rt: &'s R,
     scope: &Scope<'s, E>,
+    chore: C,
     desk: &Desk<M, Halt>,
     gate: &'s G,
     refused: &[AtomicBool],
@@ -80,22 +79,17 @@ fn play_with<
     ends: Vec<End<M, Halt>>,
     display: DisplayEnd<M, Halt>,
     outlet: O,
-    chore: C,
 ) -> Joined<M, O, C>
 where
     M::Picture: Send + Drop,
-    requires crew { IsCrew desk.now.id messages.now ends.items }
+    requires play { CanPlay desk.now.id messages.now course.paced (O.stands outlet)
+        ends.items display }
     requires flags { length refused.now ≡ length messages.now }
     requires room { (started.items ≡ []) × (vec_len ends ≤ vec_capacity started) }
-    requires display { display.desk ≡ desk.now.id }
-    requires begun { HasBegunPlay course.paced (O.stands outlet) display }
     requires can { C.can chore }
-    ensures works { CrewWorksOn ends.items result.beside.ends.items }
-    ensures same { IsSameOwner display result.beside.display }
-    ensures played { OnOk result.beside.played (PlaysAll course.paced (O.stands outlet) display
-        (O.stands result.beside.outlet) result.beside.display course.rounds) }
-    ensures cut { OnErr result.beside.played (IsCutShort course.paced (O.stands outlet) display
-        (O.stands result.beside.outlet) result.beside.display result.beside.played) }
+    ensures played { PlaysOut course.rounds course.paced (O.stands outlet)
+        (O.stands result.beside.outlet) ends.items result.beside.ends.items display
+        result.beside.display result.beside.played }
     ensures done { C.done chore result.chore }
 {
     let promise = Done {
@@ -148,41 +142,33 @@ pub(crate) fn play_joined<
 ) -> Joined<M, O, C>
 where
     M::Picture: Send + Drop,
-    requires crew { IsCrew desk.now.id messages.now ends.items }
+    requires play { CanPlay desk.now.id messages.now course.paced (O.stands outlet)
+        ends.items display }
     requires flags { length refused.now ≡ length messages.now }
     requires room { (started.items ≡ []) × (vec_len ends ≤ vec_capacity started) }
-    requires display { display.desk ≡ desk.now.id }
-    requires begun { HasBegunPlay course.paced (O.stands outlet) display }
     requires can { C.can chore }
-    ensures works { CrewWorksOn ends.items result.beside.ends.items }
-    ensures same { IsSameOwner display result.beside.display }
-    ensures played { OnOk result.beside.played (PlaysAll course.paced (O.stands outlet) display
-        (O.stands result.beside.outlet) result.beside.display course.rounds) }
-    ensures cut { OnErr result.beside.played (IsCutShort course.paced (O.stands outlet) display
-        (O.stands result.beside.outlet) result.beside.display result.beside.played) }
+    ensures played { PlaysOut course.rounds course.paced (O.stands outlet)
+        (O.stands result.beside.outlet) ends.items result.beside.ends.items display
+        result.beside.display result.beside.played }
     ensures done { C.done chore result.chore }
 {
     thread::scope(
         thread::scope_env(),
         rt,
         |scope| -> Joined<M, O, C>
-            requires crew { IsCrew desk.now.id messages.now ends.items }
+            requires play { CanPlay desk.now.id messages.now course.paced (O.stands outlet)
+                ends.items display }
             requires flags { length refused.now ≡ length messages.now }
             requires room { (started.items ≡ []) × (vec_len ends ≤ vec_capacity started) }
-            requires display { display.desk ≡ desk.now.id }
-            requires begun { HasBegunPlay course.paced (O.stands outlet) display }
             requires can { C.can chore }
-            ensures works { CrewWorksOn ends.items result.beside.ends.items }
-            ensures same { IsSameOwner display result.beside.display }
-            ensures played { OnOk result.beside.played (PlaysAll course.paced (O.stands outlet) display
-                (O.stands result.beside.outlet) result.beside.display course.rounds) }
-            ensures cut { OnErr result.beside.played (IsCutShort course.paced (O.stands outlet) display
-                (O.stands result.beside.outlet) result.beside.display result.beside.played) }
+            ensures played { PlaysOut course.rounds course.paced (O.stands outlet)
+                (O.stands result.beside.outlet) ends.items result.beside.ends.items display
+                result.beside.display result.beside.played }
             ensures done { C.done chore result.chore }
         {
             play_with(
-                rt, scope, desk, gate, refused, messages, course, started, ends, display, outlet,
-                chore,
+                rt, scope, chore, desk, gate, refused, messages, course, started, ends, display,
+                outlet,
             )
         },
     )

@@ -2,13 +2,13 @@
 ghost use Rattle.std.specs.Prelude.{◌≡◌, ◌≤◌, ℕ, Bool, [], Err, length, vec_capacity};
 ghost use Rattle.vz_outside.specs.declared.shelf.ShelfError.TheVariants.{Memory};
 ghost use Rattle.vz_rules.specs.Step.{world};
-ghost use Rattle.vz_threads.specs.Outlets.{Outlook, outlook};
+ghost use Rattle.vz_threads.specs.Outlets.{Outlook, framed};
 ghost use Rattle.vz_threads.specs.Rounds.{Setup};
 ghost use Rattle.vz_threads.specs.Runs.{IsReady, IsOpened, HasRun};
 
 use crate::back::give_back;
 use crate::opening::Opened;
-use crate::outlet::Outlet;
+use crate::outlet::FrameOutlet;
 use crate::piped::PipedOutlet;
 use crate::progress::Progress;
 use crate::ran::Ran;
@@ -19,13 +19,11 @@ use std::alloc::AllocGlobal;
 use std::sync::Wait;
 use std::sync::ledger::Ledger;
 use std::thread::Threads;
-use vz_buffers::{SharedBuffer, Steps};
+use vz_buffers::SharedBuffer;
 use vz_desk::Gathered;
-use vz_display::Display;
 use vz_machine::Machine;
 use vz_outside::{Gate, Shelf, ShelfError};
 use vz_pipe::pipe;
-use vz_player::FrameFile;
 
 /// How many frames wait in the channel at most.
 const SLOTS: usize = 2;
@@ -33,24 +31,26 @@ const SLOTS: usize = 2;
 /// Lets the display and the clients work, while another thread writes the frames. Then this
 /// thread writes those that are left, and gathers the history. Conditions: the desk was just
 /// opened, there is room and a flag for each thread, and the display has shown nothing yet.
-pub(crate) fn run_piped<M: Machine + Send + Drop, F: Shelf + Send, G: Gate + Sync, L: Ledger, R>(
+pub(crate) fn run_piped<
+    'a,
+    M: Machine + Send + Drop,
+    F: Shelf + Send,
+    G: Gate + Sync,
+    L: Ledger,
+    R,
+>(
     rt: &R,
     opened: Opened<M>,
     messages: &[u64],
     course: Course,
     gate: &G,
-    display: Display,
-    shelf: &mut F,
-    file: FrameFile,
-    steps: &mut Steps<L>,
-) -> Ran<M, Display>
+    frames: FrameOutlet<'a, F, L>,
+) -> Ran<M, FrameOutlet<'a, F, L>>
 where
     M::Picture: Send + Drop,
     R: Threads + Wait + AllocGlobal + Sync,
-    requires opened { (k : Setup)
-        × IsReady k (outlook file.slot file.size display.shown (F.shelved shelf.old) steps.old)
-        × IsOpened k.plan messages.now opened.desk.id opened.desk.callers opened.ends.items
-        opened.display }
+    requires opened { (k : Setup) × IsReady k (framed F.shelved frames) × IsOpened k.plan
+        messages.now opened.desk.id opened.desk.callers opened.ends.items opened.display }
     requires room { (opened.started.items ≡ [])
         × (length messages.now ≤ vec_capacity opened.started) }
     requires flags { length opened.refused.items ≡ length messages.now }
@@ -58,17 +58,20 @@ where
         ≡ world (M.state result.machine).plan result.history.list }
     ensures plan { (k : Setup) → IsOpened k.plan messages.now opened.desk.id opened.desk.callers
         opened.ends.items opened.display → (M.state result.machine).plan ≡ k.plan }
-    ensures run { (k : Setup)
-        → IsReady k (outlook file.slot file.size display.shown (F.shelved shelf.old) steps.old)
-        → IsOpened k.plan messages.now opened.desk.id opened.desk.callers opened.ends.items
-        opened.display → HasRun k course.rounds course.paced
-        (outlook file.slot file.size display.shown (F.shelved shelf.old) steps.old)
-        (outlook file.slot file.size result.outlet.shown (F.shelved shelf.new) steps.new)
-        result.history.list result.played }
+    ensures run { (k : Setup) → IsReady k (framed F.shelved frames.entry) → IsOpened k.plan
+        messages.now opened.desk.id opened.desk.callers opened.ends.items opened.display
+        → HasRun k course.rounds course.paced (framed F.shelved frames.entry)
+        (framed F.shelved result.outlet) result.history.list result.played }
 {
     let Ok((mut sender, mut receiver)) = pipe::<SharedBuffer>(rt.alloc(), SLOTS) else {
-        return give_up(opened, display, messages);
+        return give_up(opened, frames, messages);
     };
+    let FrameOutlet {
+        display,
+        shelf,
+        file,
+        steps,
+    } = frames;
     let progress = Progress::new();
     let outlet = PipedOutlet {
         display,
@@ -77,7 +80,7 @@ where
         progress: &progress,
         shown: 0,
         passed: 0,
-        steps,
+        steps: &mut *steps,
     };
     let (ran, wrote) = run_beside(
         rt,
@@ -100,10 +103,10 @@ where
     let PipedOutlet {
         display,
         sender: lent,
-        steps,
+        steps: counted,
         ..
     } = outlet;
-    give_back(lent, steps);
+    give_back(lent, counted);
     let mut sent = sender.end(rt);
     let played = write_rest(
         rt,
@@ -117,7 +120,12 @@ where
     Ran {
         machine,
         history,
-        outlet: display,
+        outlet: FrameOutlet {
+            display,
+            shelf,
+            file,
+            steps,
+        },
         played,
     }
 }

@@ -4,7 +4,7 @@ ghost use Rattle.vz_rules.specs.declared.entry.Event.TheVariants as event;
 ghost use Rattle.vz_desk.specs.Displays.{Displays};
 ghost use Rattle.vz_desk.specs.Owners.{IsSameOwner, MakesNone};
 ghost use Rattle.vz_threads.specs.Crews.{IsCrew, CrewWorksOn, crew_of};
-ghost use Rattle.vz_threads.specs.Rounds.{IsSomewhere, HasBegunPlay, PlaysRound, PlaysRounds, PlaysAll, IsCutFrom, IsCutShort};
+ghost use Rattle.vz_threads.specs.Rounds.{IsSomewhere, HasBegunPlay, PlaysRound, PlaysAll, EndsRounds, IsCutFrom, IsCutShort};
 
 use crate::crew::{Started, serve_all};
 use crate::halt::Halt;
@@ -77,73 +77,6 @@ where
     Ok(())
 }
 
-/// Makes the rounds of a run. After an error a front part of the bytes of their frames was
-/// written. Conditions: the end is of this desk, the display has made no round yet, and each call
-/// of an end without a thread took a message.
-fn play_rounds<M: Machine + Send, O: Outlet, G: Gate, R: Threads + Wait + AllocGlobal + Sync>(
-    rt: &R,
-    desk: &Desk<M, Halt>,
-    gate: &G,
-    started: &mut Vec<Started<M>>,
-    messages: &[u64],
-    course: Course,
-    d: &mut DisplayEnd<M, Halt>,
-    outlet: &mut O,
-) -> Result<(), ShelfError>
-where
-    M::Picture: Send + Drop,
-    requires desk { d.old.desk ≡ desk.now.id }
-    requires crew { IsCrew desk.now.id messages.now (crew_of started.old.items) }
-    requires begun { HasBegunPlay course.paced (O.stands outlet.old) d.old }
-    ensures same { IsSameOwner d.old d.new }
-    ensures played { OnOk result
-        (PlaysRounds course.paced (O.stands outlet.old) d.old (O.stands outlet.new) d.new course.rounds) }
-    ensures cut { OnErr result
-        (IsCutShort course.paced (O.stands outlet.old) d.old (O.stands outlet.new) d.new result) }
-    ensures count { vec_len started.new ≡ vec_len started.old }
-    ensures works { CrewWorksOn (crew_of started.old.items) (crew_of started.new.items) }
-{
-    for _ in 0..course.rounds {
-        play_round(rt, desk, gate, started, messages, course.paced, d, outlet)?;
-    }
-    Ok(())
-}
-
-/// Makes the rounds, takes the event Over, and closes the outlet.
-fn play_to_over<M: Machine + Send, O: Outlet, G: Gate, R: Threads + Wait + AllocGlobal + Sync>(
-    rt: &R,
-    desk: &Desk<M, Halt>,
-    gate: &G,
-    started: &mut Vec<Started<M>>,
-    messages: &[u64],
-    course: Course,
-    d: &mut DisplayEnd<M, Halt>,
-    outlet: &mut O,
-) -> Result<(), ShelfError>
-where
-    M::Picture: Send + Drop,
-    requires desk { d.old.desk ≡ desk.now.id }
-    requires crew { IsCrew desk.now.id messages.now (crew_of started.old.items) }
-    requires begun { HasBegunPlay course.paced (O.stands outlet.old) d.old }
-    ensures same { IsSameOwner d.old d.new }
-    ensures played { OnOk result
-        (PlaysAll course.paced (O.stands outlet.old) d.old (O.stands outlet.new) d.new course.rounds) }
-    ensures cut { OnErr result
-        (IsCutShort course.paced (O.stands outlet.old) d.old (O.stands outlet.new) d.new result) }
-    ensures count { vec_len started.new ≡ vec_len started.old }
-    ensures works { CrewWorksOn (crew_of started.old.items) (crew_of started.new.items) }
-{
-    play_rounds(rt, desk, gate, started, messages, course, d, outlet)?;
-    let Ok(()) = tell_over(rt, desk, gate, d) else {
-        return Err(ShelfError::Memory);
-    };
-    outlet.close(rt);
-    if outlet.is_cut(rt) {
-        return Err(ShelfError::Memory);
-    }
-    Ok(())
-}
-
 /// Makes the rounds, takes the event Over, and closes the outlet. After an error the desk is
 /// stopped, and a front part of the bytes of the frames was written. Conditions: the end is of
 /// this desk, the display has made no round yet, and each call of an end without a thread took a
@@ -171,14 +104,64 @@ where
     ensures count { vec_len started.new ≡ vec_len started.old }
     ensures works { CrewWorksOn (crew_of started.old.items) (crew_of started.new.items) }
 {
-    match play_to_over(rt, desk, gate, started, messages, course, d, outlet) {
-        Ok(()) => Ok(()),
-        Err(error) => {
-            desk.stop_display(rt, d, halt_for(error));
-            outlet.close(rt);
-            Err(error)
+    for _ in 0..course.rounds {
+        if let Err(error) = play_round(rt, desk, gate, started, messages, course.paced, d, outlet) {
+            stop_early(rt, desk, d, outlet, error);
+            return Err(error);
         }
     }
+    if let Err(error) = end_rounds(rt, desk, gate, d, outlet) {
+        stop_early(rt, desk, d, outlet, error);
+        return Err(error);
+    }
+    Ok(())
+}
+
+/// Takes the event Over, and closes the outlet. The only error is `Memory`, if the desk was
+/// stopped or a frame was not written. Condition: the end is of this desk.
+fn end_rounds<M: Machine + Send, O: Outlet, G: Gate, R: Wait>(
+    rt: &R,
+    desk: &Desk<M, Halt>,
+    gate: &G,
+    d: &mut DisplayEnd<M, Halt>,
+    outlet: &mut O,
+) -> Result<(), ShelfError>
+where
+    M::Picture: Send,
+    requires { d.old.desk ≡ desk.now.id }
+    ensures same { IsSameOwner d.old d.new }
+    ensures ended { OnOk result
+        (EndsRounds (O.stands outlet.old) d.old (O.stands outlet.new) d.new) }
+    ensures cut { OnErr result
+        (IsCutFrom (O.stands outlet.old) d.old (O.stands outlet.new) d.new result) }
+{
+    let Ok(()) = tell_over(rt, desk, gate, d) else {
+        return Err(ShelfError::Memory);
+    };
+    outlet.close(rt);
+    if outlet.is_cut(rt) {
+        return Err(ShelfError::Memory);
+    }
+    Ok(())
+}
+
+/// Stops the desk after an error, and closes the outlet. Condition: the end is of this desk.
+fn stop_early<M: Machine + Send, O: Outlet, R: Wait>(
+    rt: &R,
+    desk: &Desk<M, Halt>,
+    d: &mut DisplayEnd<M, Halt>,
+    outlet: &mut O,
+    error: ShelfError,
+)
+where
+    M::Picture: Send,
+    requires { d.old.desk ≡ desk.now.id }
+    ensures same { IsSameOwner d.old d.new }
+    ensures none { MakesNone d.old d.new }
+    ensures stands { O.stands outlet.new ≡ O.stands outlet.old }
+{
+    desk.stop_display(rt, d, halt_for(error));
+    outlet.close(rt);
 }
 
 /// The reason for which an error stops a run.

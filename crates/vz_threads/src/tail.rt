@@ -7,7 +7,7 @@ ghost use Rattle.vz_rules.specs.Course.{is_drawn};
 ghost use Rattle.vz_rules.specs.Step.{world};
 ghost use Rattle.vz_player.specs.Played.{painted_by};
 ghost use Rattle.vz_player.specs.Taken.{AddsFrames, AddsFramesFront};
-ghost use Rattle.vz_threads.specs.Tails.{AddsTail, AddsBegins, AddsShow, GoesOn, AllComeDue};
+ghost use Rattle.vz_threads.specs.Tails.{AddsTail, GoesOn, AllComeDue};
 
 use std::alloc::Global;
 use std::sync::ledger::Ledger;
@@ -51,74 +51,9 @@ where
         (F.shelved shelf.old) (F.shelved shelf.new) }
     ensures behaves { Behaves (F.shelved shelf.old) (F.shelved shelf.new) result }
 {
-    begin_awaited(rt, alloc, player, shelf, file, gate, steps)?;
-    play_show(rt, alloc, player, shelf, file, gate, steps)?;
-    Ok(())
-}
-
-/// Begins frames while some submission waits.
-fn begin_awaited<M: Machine + Drop, F: Shelf, G: Gate, L: Ledger, R: Threads + Sync>(
-    rt: &R,
-    alloc: Global,
-    player: &mut Player<M>,
-    shelf: &mut F,
-    file: FrameFile,
-    gate: &G,
-    steps: &mut Steps<L>,
-) -> Result<(), ShelfError>
-where
-    M::Picture: Drop,
-    requires going { player.old.stopped ≡ false }
-    requires due { AllComeDue (world player.old.plan player.old.history) }
-    requires size { player.old.plan.size ≡ file.size }
-    requires sides { IsDisplaySize file.size }
-    requires open { (F.shelved shelf.old).mode file.slot ≡ Some Writing }
-    ensures begins { OnOk result (AddsBegins player.old player.new) }
-    ensures written { OnOk result (AddsFrames player.old player.new
-        ((F.shelved shelf.old).name file.slot) (F.shelved shelf.old) (F.shelved shelf.new)) }
-    ensures counted { OnOk result
-        (steps.new + painted_by player.old ≡ steps.old + painted_by player.new) }
-    ensures stops { OnErr result (GoesOn player.old player.new) }
-    ensures begun { OnErr result (AddsFramesFront player.old player.new
-        ((F.shelved shelf.old).name file.slot) (F.shelved shelf.old) (F.shelved shelf.new)) }
-    ensures others { KeepsOthers ((F.shelved shelf.old).name file.slot)
-        (F.shelved shelf.old) (F.shelved shelf.new) }
-    ensures behaves { Behaves (F.shelved shelf.old) (F.shelved shelf.new) result }
-{
     while player.machine().waiting() {
         play_frames(rt, alloc, player, &[Event::Begin], shelf, file, gate, steps)?;
     }
-    Ok(())
-}
-
-/// Draws once, and calls Done if a frame was drawn.
-fn play_show<M: Machine + Drop, F: Shelf, G: Gate, L: Ledger, R: Threads + Sync>(
-    rt: &R,
-    alloc: Global,
-    player: &mut Player<M>,
-    shelf: &mut F,
-    file: FrameFile,
-    gate: &G,
-    steps: &mut Steps<L>,
-) -> Result<(), ShelfError>
-where
-    M::Picture: Drop,
-    requires going { player.old.stopped ≡ false }
-    requires size { player.old.plan.size ≡ file.size }
-    requires sides { IsDisplaySize file.size }
-    requires open { (F.shelved shelf.old).mode file.slot ≡ Some Writing }
-    ensures show { OnOk result (AddsShow player.old player.new) }
-    ensures written { OnOk result (AddsFrames player.old player.new
-        ((F.shelved shelf.old).name file.slot) (F.shelved shelf.old) (F.shelved shelf.new)) }
-    ensures counted { OnOk result
-        (steps.new + painted_by player.old ≡ steps.old + painted_by player.new) }
-    ensures stops { OnErr result (GoesOn player.old player.new) }
-    ensures begun { OnErr result (AddsFramesFront player.old player.new
-        ((F.shelved shelf.old).name file.slot) (F.shelved shelf.old) (F.shelved shelf.new)) }
-    ensures others { KeepsOthers ((F.shelved shelf.old).name file.slot)
-        (F.shelved shelf.old) (F.shelved shelf.new) }
-    ensures behaves { Behaves (F.shelved shelf.old) (F.shelved shelf.new) result }
-{
     play_frames(rt, alloc, player, &[Event::Draw], shelf, file, gate, steps)?;
     if !ends_drawn(player.history()) {
         return Ok(());

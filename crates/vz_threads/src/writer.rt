@@ -1,8 +1,8 @@
 //! What the thread does that writes the frames of a run.
 ghost use Rattle.std.specs.Prelude.{◌≡◌, [], Some, OnOk, OnErr};
 ghost use mathlib.Core.List.{IsPrefix};
-ghost use Rattle.vz_outside.specs.Shelved.{Writing, KeepsOthers, Behaves, Appends, AppendsFront};
-ghost use Rattle.vz_threads.specs.Pipes.{bytes_of, WritesLeft, BeginsLeft, IsWrittenOn};
+ghost use Rattle.vz_outside.specs.Shelved.{Writing, KeepsOthers, Behaves};
+ghost use Rattle.vz_threads.specs.Pipes.{bytes_of, Wrote, WritesLeft, BeginsLeft, IsWrittenOn};
 
 use crate::progress::Progress;
 use std::sync::Wait;
@@ -27,13 +27,8 @@ pub(crate) fn write_frames<F: Shelf, G: Gate, R: Wait>(
     requires open { (F.shelved shelf.old).mode slot ≡ Some Writing }
     requires none { receiver.old.taken ≡ [] }
     ensures pipe { receiver.new.pipe ≡ receiver.old.pipe }
-    ensures written { OnOk result (Appends (bytes_of receiver.new.taken)
-        ((F.shelved shelf.old).name slot) (F.shelved shelf.old) (F.shelved shelf.new)) }
-    ensures begun { OnErr result (AppendsFront (bytes_of receiver.new.taken)
-        ((F.shelved shelf.old).name slot) (F.shelved shelf.old) (F.shelved shelf.new)) }
-    ensures others { KeepsOthers ((F.shelved shelf.old).name slot)
-        (F.shelved shelf.old) (F.shelved shelf.new) }
-    ensures behaves { Behaves (F.shelved shelf.old) (F.shelved shelf.new) result }
+    ensures wrote { Wrote (bytes_of receiver.new.taken) slot (F.shelved shelf.old)
+        (F.shelved shelf.new) result }
 {
     progress.begin(rt);
     gate.before(WRITER, 1);
@@ -62,13 +57,8 @@ fn write_taken<F: Shelf, R: Wait>(
     requires open { (F.shelved shelf.old).mode slot ≡ Some Writing }
     requires none { receiver.old.taken ≡ [] }
     ensures pipe { receiver.new.pipe ≡ receiver.old.pipe }
-    ensures written { OnOk result (Appends (bytes_of receiver.new.taken)
-        ((F.shelved shelf.old).name slot) (F.shelved shelf.old) (F.shelved shelf.new)) }
-    ensures begun { OnErr result (AppendsFront (bytes_of receiver.new.taken)
-        ((F.shelved shelf.old).name slot) (F.shelved shelf.old) (F.shelved shelf.new)) }
-    ensures others { KeepsOthers ((F.shelved shelf.old).name slot)
-        (F.shelved shelf.old) (F.shelved shelf.new) }
-    ensures behaves { Behaves (F.shelved shelf.old) (F.shelved shelf.new) result }
+    ensures wrote { Wrote (bytes_of receiver.new.taken) slot (F.shelved shelf.old)
+        (F.shelved shelf.new) result }
 {
     for _ in rt.forever() {
         let Some(frame) = receiver.take(rt) else {

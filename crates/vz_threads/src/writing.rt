@@ -1,8 +1,8 @@
 //! A run beside the thread that writes its frames.
-ghost use Rattle.std.specs.Prelude.{◌≡◌, ◌≤◌, [], Some, OnOk, OnErr, length, vec_capacity};
-ghost use Rattle.vz_outside.specs.Shelved.{Writing, KeepsOthers, Behaves, Appends, AppendsFront};
+ghost use Rattle.std.specs.Prelude.{◌≡◌, ◌≤◌, [], Some, length, vec_capacity};
+ghost use Rattle.vz_outside.specs.Shelved.{Writing};
 ghost use Rattle.vz_rules.specs.Step.{world};
-ghost use Rattle.vz_threads.specs.Pipes.{bytes_of};
+ghost use Rattle.vz_threads.specs.Pipes.{bytes_of, Wrote};
 ghost use Rattle.vz_threads.specs.Rounds.{Setup};
 ghost use Rattle.vz_threads.specs.Runs.{IsReady, IsOpened, HasRun};
 
@@ -100,13 +100,8 @@ where
         → HasRun k course.rounds course.paced (O.stands outlet) (O.stands result.0.outlet)
         result.0.history.list result.0.played }
     ensures pipe { receiver.new.pipe ≡ receiver.old.pipe }
-    ensures written { OnOk result.1 (Appends (bytes_of receiver.new.taken)
-        ((F.shelved shelf.old).name slot) (F.shelved shelf.old) (F.shelved shelf.new)) }
-    ensures begun { OnErr result.1 (AppendsFront (bytes_of receiver.new.taken)
-        ((F.shelved shelf.old).name slot) (F.shelved shelf.old) (F.shelved shelf.new)) }
-    ensures others { KeepsOthers ((F.shelved shelf.old).name slot)
-        (F.shelved shelf.old) (F.shelved shelf.new) }
-    ensures behaves { Behaves (F.shelved shelf.old) (F.shelved shelf.new) result.1 }
+    ensures wrote { Wrote (bytes_of receiver.new.taken) slot (F.shelved shelf.old)
+        (F.shelved shelf.new) result.1 }
 {
     let Opened {
         desk,

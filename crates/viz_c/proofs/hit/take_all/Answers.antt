@@ -1,4 +1,4 @@
-use Rattle.viz_c.proofs.Tested_more.{one_tested}
+use Rattle.viz_run.proofs.Takes.{one_tested}
 use Rattle.viz_c.proofs.hit.take_all.Goals as goal
 
 pub loop-event-preserved : goal.loop-event-preserved

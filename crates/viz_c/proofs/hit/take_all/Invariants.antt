@@ -1,5 +1,5 @@
 use Rattle.std.proofs.Common.{take}
-use Rattle.viz_c.specs.Hitting.{HasTested}
+use Rattle.viz_run.specs.Taken.{HasTested}
 use Rattle.viz_c.proofs.hit.take_all.Given as goal
 
 -- the tester has taken the first events

@@ -1,16 +1,16 @@
 use Rattle.std.proofs.Common.{◌∙◌, ap, sym}
 use Rattle.vz_threads.specs.Outlets.{Fixed}
 use Rattle.vz_threads.proofs.{Renaming.ready_named, Renaming.run_unnamed, Renaming.now_at, Through.fixed_stays}
-use Rattle.vz_threads.proofs.chosen.run_written.Goals as goal
+use Rattle.vz_threads.proofs.chosen.run_chosen.Goals as goal
 
-pub run_opened-machine-requires-clause-opened : goal.run_opened-machine-requires-clause-opened
-run_opened-machine-requires-clause-opened g c κs within =
+pub run_framed-machine-requires-clause-opened : goal.run_framed-machine-requires-clause-opened
+run_framed-machine-requires-clause-opened g c κs within =
     let s = c.requires.opened in
     (s.0, ready_named s.0 c.args.file.slot c.args.file.size _ _ c.args.display.shown (g.F.Shelf.shelved c.args.shelf.now) c.args.steps.now s.1, s.2)
 
 pub returns-clause-run : goal.returns-clause-run
 returns-clause-run g c = λ k ready opened.
-    let r = c.run_opened-machine in
+    let r = c.run_framed-machine in
     let run = r.ensures.run k (ready_named k c.args.file.slot c.args.file.size _ _ c.args.display.shown (g.F.Shelf.shelved c.args.shelf.now) c.args.steps.now ready) opened in
     let fixed = fixed_stays k _ _ _ _ _ _ run in
     now_at g.F.Shelf.shelved k c.args.course.rounds c.args.course.paced _ c.args.file.slot c.args.file.size _ _ _ _ _ _ _

@@ -1,7 +1,7 @@
 use Rattle.std.proofs.Common.{◌≡◌, vec_len}
 use Rattle.vz_desk.specs.Owners.{IsSameOwner}
 use Rattle.vz_threads.specs.{Crews.CrewWorksOn, Crews.crew_of, Rounds.PlaysRounds}
-use Rattle.vz_threads.proofs.playing.play_rounds.Given as goal
+use Rattle.vz_threads.proofs.playing.play.Given as goal
 
 abbrev pub invariant-loop : goal.invariant-loop
 invariant-loop g l = record {
