@@ -1,17 +1,12 @@
 -- Files that are put together, and cut again.
 use Rattle.std.proofs.Common.{◌≡◌, ℕ, ◌+◌, ◌-◌, ◌<◌, ◌≤◌, suc, Bool, true, false, ◌==◌, List, [], ◌∷◌, ◌++◌, length, map, take, drop, get_or, IsTrue, refl, sym, ap, ◌∙◌, arith, length-append}
-use Rattle.std.specs.Prelude.{zero}
-use Rattle.std.proofs.lemmas.Bool.{eq-eqb, ne_eqb}
-use Rattle.std.proofs.lemmas.List.{take_all, take_more, append-nil, map-append}
-use Rattle.std.proofs.lemmas.List.Concat.{flat_map-append}
-use Rattle.std.proofs.lemmas.List.Folds.{list_all_at}
+use Rattle.std.specs.{Prelude.zero, List.sum, List.flat_map, List.list_all}
+use Rattle.std.proofs.{lemmas.Bool.eq-eqb, lemmas.Bool.ne_eqb, lemmas.List.Concat.flat_map-append}
+use Rattle.std.proofs.{lemmas.List.take_all, lemmas.List.take_more, lemmas.List.append-nil, lemmas.List.map-append, lemmas.List.Folds.list_all_at}
 use Rattle.std.proofs.lemmas.List.Sums.{sum_by-cons, sum_by_more, sum_by_more_le}
-use Rattle.std.specs.List.{sum, flat_map, list_all}
 use Rattle.vz_codec.specs.Spelling.{file_bytes}
-use Rattle.vz_frame.specs.Fits.{fits_file}
-use Rattle.vz_frame.specs.declared.message.ClientFile.{ClientFile}
-use Rattle.viz_c.specs.Calls.{cut}
-use Rattle.viz_c.specs.Making.{lengths_of}
+use Rattle.vz_frame.specs.{Fits.fits_file, declared.message.ClientFile.ClientFile}
+use Rattle.viz_c.specs.{Calls.cut, Making.lengths_of}
 
 -- the front of two lists, and what is behind it
 pub front_of : (xs ys : List ℕ) → take (length xs) (xs ++ ys) ≡ xs

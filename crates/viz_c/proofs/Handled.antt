@@ -15,11 +15,10 @@ use denote.Signature.{Slot, plain}
 use denote.Steps.{nothing}
 use denote.Struct.Struct.{within}
 use denote.Struct.Owning.{shape}
-use Rattle.std.specs.Prelude.{None}
+use Rattle.std.specs.{Prelude.None, contracts.impls.GlobalAllocator.TheImpl.ghosts, contracts.impls.GlobalAllocator.TheImpl.dict}
 use Rattle.std.proofs.BoxSteps.Form.{Bx, P, owning, box_ty}
 use Rattle.std.proofs.alloc.Calls.{α, Fits, handle_tells}
 use Rattle.std.specs.contracts.alloc.Global as Heap
-use Rattle.std.specs.contracts.impls.GlobalAllocator.TheImpl.{ghosts, dict}
 use Rattle.std.proofs.alloc.Global.TheLaws as heap
 use Rattle.viz_c.specs.contracts.stage.Stage as Stage
 use Rattle.viz_c.proofs.stage.Stage.TheLaws as stage

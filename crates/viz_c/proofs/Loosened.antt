@@ -18,11 +18,8 @@ use denote.Param.{layout}
 use denote.Param.Laws.{Laws}
 use denote.Struct.Struct.{within}
 use denote.Struct.Owning.{shape}
-use Rattle.std.specs.declared.alloc.Allocator.{Ghosts}
-use Rattle.std.proofs.alloc.Calls.{Al, handle_tells}
-use Rattle.std.proofs.cell.Inside.{Good}
-use Rattle.std.specs.Box.Ownership.{box_owns}
-use Rattle.std.proofs.ResultValues.{and_tt}
+use Rattle.std.specs.{declared.alloc.Allocator.Ghosts, Box.Ownership.box_owns}
+use Rattle.std.proofs.{alloc.Calls.Al, alloc.Calls.handle_tells, cell.Inside.Good, ResultValues.and_tt}
 use Rattle.viz_c.specs.contracts.loose.Loose as loose
 
 abbrev pub both : Val → Val → Val

@@ -1,10 +1,7 @@
 -- A shelf in memory with one file, and the verdict on what it holds.
 use Rattle.std.proofs.Common.{◌≡◌, ◌∙◌, ℕ, Some, List, [], ◌∷◌, ◌++◌, refl, ap, subst, sym}
-use Rattle.std.specs.Prelude.{Vec, String}
-use Rattle.std.specs.Global.{Global}
-use Rattle.std.specs.String.{string_bytes}
-use Rattle.vz_check.specs.Verdict.{IsVerdict}
-use Rattle.vz_check.specs.declared.verdict.Verdict.{Verdict}
+use Rattle.std.specs.{Prelude.Vec, Prelude.String, Global.Global, String.string_bytes}
+use Rattle.vz_check.specs.{Verdict.IsVerdict, declared.verdict.Verdict.Verdict}
 use Rattle.vz_outside.specs.InMemory.{bytes_in, files_of, first_named}
 use Rattle.vz_rules.specs.Plan.{Plan}
 

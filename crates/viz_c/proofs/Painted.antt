@@ -1,17 +1,13 @@
 -- What is painted of a whole picture.
 use Rattle.std.proofs.Common.{◌≡◌, ◌∙◌, true, List, [], ◌∷◌, map, Contains, refl, sym, ap, if◌then◌else◌}
-use Rattle.vz_geom.specs.declared.Point.{Point}
+use Rattle.vz_geom.specs.{declared.Point.Point, Display.IsDisplaySize, Rectangle.Rectangle, Rectangle.has, Rectangle.sized, Rectangle.points_of}
 use Rattle.vz_geom.specs.declared.Size.{Size}
-use Rattle.vz_geom.specs.Display.{IsDisplaySize}
-use Rattle.vz_geom.specs.Rectangle.{Rectangle, has, sized, points_of}
 use Rattle.vz_pixels.specs.Colour.{Colour, black}
-use Rattle.vz_flat.specs.Ops.{value}
-use Rattle.vz_flat.specs.declared.op.Op.{Op}
+use Rattle.vz_flat.specs.{Ops.value, declared.op.Op.Op}
 use Rattle.vz_machine.specs.Pictured.{colours_in}
 use Rattle.vz_occlude.specs.Pictures.{Flattened, flat_picture}
 use Rattle.vz_rules.specs.Frames.{patched}
-use Rattle.vz_rules.proofs.Members.{contains_here, contains_there}
-use Rattle.vz_rules.proofs.Patches.{in_display}
+use Rattle.vz_rules.proofs.{Members.contains_here, Members.contains_there, Patches.in_display}
 
 -- a part with all points of a list changes all
 patched_all :

@@ -1,14 +1,10 @@
 -- What holds of the numbers of a call that is allowed.
 use Rattle.std.proofs.Common.{◌≡◌, ◌⊎◌, ℕ, ◌≤◌, ◌<◌, nat_lt, leb, pos, Bool, true, false, ◌&&◌, ◌==◌, List, length, IsTrue, refl, sym, subst, inl, inr, arith}
-use Rattle.vz_geom.specs.declared.Point.{Point}
-use Rattle.vz_geom.specs.declared.Size.{Size}
-use Rattle.std.proofs.lemmas.Bool.{and_parts, leb-true, ltb-true}
-use Rattle.std.proofs.lemmas.Int.{ints}
+use Rattle.vz_geom.specs.{declared.Point.Point, declared.Size.Size, Display.IsDisplaySize, Rectangle.has, Rectangle.sized}
+use Rattle.std.proofs.{lemmas.Bool.and_parts, lemmas.Bool.leb-true, lemmas.Bool.ltb-true, lemmas.Int.ints}
 use Rattle.std.specs.List.{sum}
 use Rattle.vz_base.specs.declared.limits.TheConstants.{MOST_FILES, GREATEST_DISPLAY_SIDE, MOST_ROUNDS}
 use Rattle.vz_frame.specs.Fits.{within}
-use Rattle.vz_geom.specs.Display.{IsDisplaySize}
-use Rattle.vz_geom.specs.Rectangle.{has, sized}
 use Rattle.vz_rules.specs.Command.{are_sides}
 use Rattle.viz_c.specs.Calls.{is_call, is_hit_call, is_gen_call, size_of}
 

@@ -1,13 +1,10 @@
 -- What the answer of `viz_decode` says of the bytes.
 use Rattle.std.proofs.Common.{◌≡◌, ◌≤◌, ◌==◌, ℕ, ◌∙◌, None, Some, Result, Ok, Err, List, refl, sym, ap, arith, if◌then◌else◌}
 use Rattle.vz_frame.specs.declared.message.ClientFile.{ClientFile}
-use Rattle.vz_codec.specs.declared.fault.FileRule.{FileRule}
+use Rattle.vz_codec.specs.{declared.fault.FileRule.FileRule, declared.fault.DecodeError.DecodeError, Grammar.placed, Grammar.wrong, Grammar.Decodes}
 use Rattle.vz_codec.specs.declared.fault.FileRule.TheVariants.{Magic, Version, Short, Tag, Limit, Colour, Trailing}
-use Rattle.vz_codec.specs.declared.fault.DecodeError.{DecodeError}
 use Rattle.vz_codec.specs.declared.fault.DecodeError.TheVariants.{Refused, Memory}
-use Rattle.vz_codec.specs.Grammar.{placed, wrong, Decodes}
-use Rattle.viz_c.specs.Numbers.{rule_number, IsDecodingTold}
-use Rattle.viz_c.specs.declared.answer.TheConstants.{DONE, MEMORY}
+use Rattle.viz_c.specs.{Numbers.rule_number, Numbers.IsDecodingTold, declared.answer.TheConstants.DONE, declared.answer.TheConstants.MEMORY}
 
 -- a rule by its number
 rule_of : ℕ → FileRule

@@ -1,19 +1,15 @@
 -- What the answer of `viz_gen` says.
 use Rattle.std.proofs.Common.{◌≡◌, ◌≢◌, ◌⊎◌, ◌<◌, ℕ, suc, ◌∙◌, Result, Ok, Err, List, length, map, take, drop, refl, sym, ap, subst, inl, inr, arith}
-use Rattle.std.specs.List.{flat_map, sum}
-use Rattle.std.specs.Prelude.{zero, IfOk}
+use Rattle.std.specs.{List.flat_map, List.sum, Prelude.zero, Prelude.IfOk}
 use Rattle.vz_base.specs.declared.memory.Memory.{Memory as Want}
 use Rattle.vz_codec.specs.Spelling.{file_bytes}
 use Rattle.std.proofs.lemmas.List.{length-map}
 use Rattle.vz_frame.specs.declared.message.ClientFile.{ClientFile}
 use Rattle.vz_gen.proofs.Fitting.{made_three}
 use Rattle.vz_gen.specs.Make.{make}
-use Rattle.viz_c.specs.Calls.{cut}
-use Rattle.viz_c.specs.Making.{lengths_of, MakesMore, IsMadeTold}
-use Rattle.viz_c.specs.Numbers.{IsWithin}
-use Rattle.viz_c.specs.Rooms.{Room, Keeps, KeepsRest}
+use Rattle.viz_c.specs.{Calls.cut, Numbers.IsWithin}
+use Rattle.viz_c.specs.{Making.lengths_of, Making.MakesMore, Making.IsMadeTold, Rooms.Room, Rooms.Keeps, Rooms.KeepsRest, declared.rounds.Made.Made}
 use Rattle.viz_c.specs.declared.answer.TheConstants.{DONE, MEMORY, CALL, ROOM}
-use Rattle.viz_c.specs.declared.rounds.Made.{Made}
 use Rattle.viz_c.proofs.Cutting.{cut_again, all_lengths}
 
 -- these are the files for so many rounds

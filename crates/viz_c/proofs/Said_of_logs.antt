@@ -1,17 +1,12 @@
 -- What the answer of `viz_check` says.
 use Rattle.std.proofs.Common.{◌≡◌, ◌≢◌, ◌⊎◌, ℕ, ◌∙◌, Some, Result, Ok, Err, List, refl, sym, ap, subst, inl, inr, arith}
-use Rattle.std.specs.Option.{option_map}
-use Rattle.std.specs.Prelude.{IfOk, IsErrOf}
-use Rattle.vz_check.specs.declared.verdict.Verdict.{Verdict}
-use Rattle.vz_check.specs.declared.verdict.Verdict.TheVariants.{Yes, No}
+use Rattle.std.specs.{Option.option_map, Prelude.IfOk, Prelude.IsErrOf}
+use Rattle.vz_check.specs.{declared.verdict.Verdict.Verdict, declared.verdict.Verdict.TheVariants.Yes, declared.verdict.Verdict.TheVariants.No}
 use Rattle.vz_geom.specs.declared.Size.{Size}
-use Rattle.viz_run.specs.declared.refused.InputError.{InputError}
+use Rattle.viz_run.specs.{declared.refused.InputError.InputError, declared.refused.Refused.Refused}
 use Rattle.viz_run.specs.declared.refused.InputError.TheVariants as input_error
-use Rattle.viz_run.specs.declared.refused.Refused.{Refused}
-use Rattle.viz_c.specs.Calls.{log_refused_of}
-use Rattle.viz_c.specs.Judging.{Judges, JudgesNo, IsCheckTold}
-use Rattle.viz_c.specs.Numbers.{cause_of, IsCause, IsWithin}
-use Rattle.viz_c.specs.declared.answer.Cause.{Cause}
+use Rattle.viz_c.specs.{Calls.log_refused_of, declared.answer.Cause.Cause}
+use Rattle.viz_c.specs.{Judging.Judges, Judging.JudgesNo, Judging.IsCheckTold, Numbers.cause_of, Numbers.IsCause, Numbers.IsWithin}
 use Rattle.viz_c.specs.declared.answer.TheConstants.{DONE, MEMORY, CALL, ROOM, REFUSED, FAULT}
 use Rattle.viz_c.proofs.Said_of_steps.{error_code, not_done}
 

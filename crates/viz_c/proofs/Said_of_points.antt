@@ -1,19 +1,13 @@
 -- What the answer of `viz_hit` says.
 use Rattle.std.proofs.Common.{◌≡◌, ◌≢◌, ◌⊎◌, ℕ, ◌∙◌, Some, None, Result, Ok, Err, List, refl, sym, ap, subst, inl, inr, arith}
-use Rattle.std.specs.Option.{option_map}
-use Rattle.std.specs.Prelude.{IfOk, IsErrOf}
-use Rattle.vz_geom.specs.declared.Point.{Point}
-use Rattle.vz_geom.specs.declared.Size.{Size}
-use Rattle.viz_run.specs.declared.refused.InputError.{InputError}
+use Rattle.std.specs.{Option.option_map, Prelude.IfOk, Prelude.IsErrOf}
+use Rattle.vz_geom.specs.{declared.Point.Point, declared.Size.Size}
+use Rattle.viz_run.specs.{declared.refused.InputError.InputError, declared.refused.Refused.Refused}
 use Rattle.viz_run.specs.declared.refused.InputError.TheVariants as input_error
-use Rattle.viz_run.specs.declared.refused.Refused.{Refused}
 use Rattle.vz_rules.specs.Hit.{Target as Hit}
-use Rattle.viz_c.specs.Calls.{schedule_refused_of}
-use Rattle.viz_c.specs.Hitting.{Hits, HitsSome, IsHitTold}
-use Rattle.viz_c.specs.Numbers.{cause_of, IsCause, IsWithin}
-use Rattle.viz_c.specs.declared.answer.Cause.{Cause}
+use Rattle.viz_c.specs.{Calls.schedule_refused_of, declared.answer.Cause.Cause, declared.hit.Target.Target}
+use Rattle.viz_c.specs.{Hitting.Hits, Hitting.HitsSome, Hitting.IsHitTold, Numbers.cause_of, Numbers.IsCause, Numbers.IsWithin}
 use Rattle.viz_c.specs.declared.answer.TheConstants.{DONE, MEMORY, CALL, ROOM, REFUSED, FAULT, NOTHING}
-use Rattle.viz_c.specs.declared.hit.Target.{Target}
 use Rattle.viz_c.proofs.Said_of_steps.{error_code, not_done}
 
 -- what holds for a size and a point holds for those that are equal

@@ -1,19 +1,13 @@
 -- What the answer of `viz_step` says.
 use Rattle.std.proofs.Common.{◌≡◌, ◌≢◌, ◌⊎◌, ℕ, suc, ◌∙◌, ◌&&◌, nat_le, Some, Result, Ok, Err, List, length, take, drop, refl, sym, ap, subst, inl, inr, arith}
-use Rattle.std.specs.String.{string_bytes}
-use Rattle.std.specs.Option.{option_map}
-use Rattle.std.specs.Prelude.{zero, IfOk, IsErrOf}
+use Rattle.std.specs.{String.string_bytes, Option.option_map, Prelude.zero, Prelude.IfOk, Prelude.IsErrOf}
 use Rattle.vz_geom.specs.declared.Size.{Size}
-use Rattle.viz_run.specs.declared.refused.InputError.{InputError}
+use Rattle.viz_run.specs.{declared.refused.InputError.InputError, declared.refused.Refused.Refused}
 use Rattle.viz_run.specs.declared.refused.InputError.TheVariants as input_error
-use Rattle.viz_run.specs.declared.refused.Refused.{Refused}
-use Rattle.viz_c.specs.Calls.{schedule_refused_of}
-use Rattle.viz_c.specs.Numbers.{cause_of, IsCause, IsErrorTold, IsWithin}
-use Rattle.viz_c.specs.Rooms.{Room, IsPut, Keeps, KeepsRest}
-use Rattle.viz_c.specs.Stepping.{AreStepped, NeedsRoom, IsStepTold}
-use Rattle.viz_c.specs.declared.answer.Cause.{Cause}
+use Rattle.viz_c.specs.{Calls.schedule_refused_of, declared.step.Left.Left}
+use Rattle.viz_c.specs.{Numbers.cause_of, Numbers.IsCause, Numbers.IsErrorTold, Numbers.IsWithin, declared.answer.Cause.Cause}
+use Rattle.viz_c.specs.{Rooms.Room, Rooms.IsPut, Rooms.Keeps, Rooms.KeepsRest, Stepping.AreStepped, Stepping.NeedsRoom, Stepping.IsStepTold}
 use Rattle.viz_c.specs.declared.answer.TheConstants.{DONE, MEMORY, CALL, ROOM, REFUSED}
-use Rattle.viz_c.specs.declared.step.Left.{Left}
 
 -- the bytes that are put into a room are its front
 front_is : (bytes : List ℕ) (r : Room) → r.count ≡ length bytes → IsPut bytes r.before r.after → take r.count r.after ≡ bytes

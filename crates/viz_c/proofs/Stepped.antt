@@ -1,13 +1,8 @@
 -- The entry of an event that a stage takes.
 use Rattle.std.proofs.Common.{◌≡◌, ◌∙◌, sym, ap}
-use Rattle.vz_machine.specs.Stepping.{Answers}
-use Rattle.vz_machine.specs.declared.machine.Step.{Step}
-use Rattle.vz_rules.specs.declared.entry.Effects.{Effects}
-use Rattle.vz_rules.specs.declared.entry.Entry.{Entry}
-use Rattle.vz_rules.specs.declared.entry.Event.{Event}
-use Rattle.vz_rules.specs.declared.entry.Reply.{Reply}
-use Rattle.vz_rules.specs.Step.{Outcome, entry_in, step_in}
-use Rattle.vz_rules.specs.World.{Machine}
+use Rattle.vz_machine.specs.{Stepping.Answers, declared.machine.Step.Step}
+use Rattle.vz_rules.specs.{declared.entry.Effects.Effects, declared.entry.Entry.Entry, Step.Outcome, Step.entry_in, Step.step_in, World.Machine}
+use Rattle.vz_rules.specs.{declared.entry.Event.Event, declared.entry.Reply.Reply}
 
 -- the entry of an event that is answered
 pub entry_is :

@@ -2,11 +2,7 @@
 use Rattle.std.proofs.Common.{◌≡◌, ◌++◌, List, ap, subst, ◌∙◌}
 use Rattle.vz_geom.specs.declared.Point.{Point}
 use Rattle.vz_player.specs.Tested.{Tested, first_tested}
-use Rattle.vz_rules.specs.Plan.{Plan}
-use Rattle.vz_rules.specs.declared.entry.Event.{Event}
-use Rattle.vz_rules.specs.Hit.{Target as Hit}
-use Rattle.vz_rules.specs.Step.{Legal}
-use Rattle.vz_rules.specs.Whole.{hit_last}
+use Rattle.vz_rules.specs.{Plan.Plan, declared.entry.Event.Event, Hit.Target as Hit, Step.Legal, Whole.hit_last}
 use Rattle.viz_run.specs.{Ends.events_in, Taken.HasTested}
 use Rattle.viz_c.specs.Hitting.{IsHitIn}
 

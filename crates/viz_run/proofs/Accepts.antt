@@ -1,23 +1,14 @@
 -- Clients' files accepted one after the other.
 use Rattle.std.proofs.Common.{rules, ◌≡◌, ℕ, zero, suc, ◌+◌, ◌<◌, ◌≤◌, Bool, true, false, ◌||◌, cond, Option, Some, None, Result, Ok, Err, IsErrOf, IsErrAnd, IsTrue, List, [], ◌∷◌, ◌++◌, get_or, length, refl, sym, ap, ◌∙◌, subst, append_assoc, append-nil, arith}
-use Rattle.std.specs.Option.{option_map}
-use Rattle.std.proofs.lemmas.List.{length-append, length-map}
-use Rattle.std.proofs.lemmas.List.Elements.{filter_map-append}
-use Rattle.std.proofs.lemmas.List.Folds.{list_all-append}
-use Rattle.std.specs.List.{list_all, filter_map}
-use Rattle.std.specs.declared.vec.Vec.{Vec}
-use Rattle.vz_ids.specs.declared.FrameSinkId.{FrameSinkId}
-use Rattle.vz_ids.specs.Ids.{same_sink}
-use Rattle.vz_frame.specs.declared.message.ClientFile.{ClientFile}
-use Rattle.vz_frame.specs.Fits.{fits_file}
+use Rattle.std.specs.{Option.option_map, List.list_all, List.filter_map, declared.vec.Vec.Vec}
+use Rattle.std.proofs.{lemmas.List.length-append, lemmas.List.length-map, lemmas.List.Elements.filter_map-append, lemmas.List.Folds.list_all-append}
+use Rattle.vz_ids.specs.{declared.FrameSinkId.FrameSinkId, Ids.same_sink}
+use Rattle.vz_frame.specs.{declared.message.ClientFile.ClientFile, Fits.fits_file}
 use Rattle.vz_codec.specs.Reading.{Fault, file_in}
 use Rattle.vz_rules.specs.Plan.{has_sink, taken_from, first_taken}
-use Rattle.viz_run.specs.Decoded.{IsDecoded, AreDecoded}
-use Rattle.viz_run.specs.Read.{contents}
+use Rattle.viz_run.specs.{Decoded.IsDecoded, Decoded.AreDecoded, Read.contents}
 use Rattle.viz_run.specs.Refusals.{Flaw, file_spelled, files_in, sink_place, takes_sink, file_flaw, file_refused, refused_at, refused_behind}
-use Rattle.viz_run.specs.declared.refused.Reason.TheVariants.{SinkTaken}
-use Rattle.viz_run.specs.declared.refused.Refused.{Refused}
-use Rattle.viz_run.specs.declared.refused.InputError.{InputError}
+use Rattle.viz_run.specs.{declared.refused.Reason.TheVariants.SinkTaken, declared.refused.Refused.Refused, declared.refused.InputError.InputError}
 use Rattle.viz_run.specs.declared.refused.InputError.TheVariants as input_error
 use Rattle.viz_run.proofs.Flaws.{sink_flaw, error_is, refused_is}
 

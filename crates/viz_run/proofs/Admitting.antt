@@ -5,21 +5,12 @@ use Rattle.std.specs.List.{flat_map}
 use Rattle.vz_base.specs.declared.limits.TheConstants.{MOST_FILE_BYTES, MOST_EVENTS}
 use Rattle.vz_outside.specs.Shelved.{Shelved, SameFiles, IsMissing, Name}
 use Rattle.vz_outside.proofs.Calls.{Ran}
-use Rattle.viz_run.specs.Read.{IsReadUpto, AreReadUpto, MissesOne}
-use Rattle.viz_run.specs.Refusals.{file_refused, plan_read}
-use Rattle.viz_run.specs.Schedule.{events_of, schedule_refused}
-use Rattle.viz_run.specs.declared.refused.Refused.{Refused}
-use Rattle.viz_run.specs.declared.refused.InputError.{InputError}
+use Rattle.viz_run.specs.{Read.IsReadUpto, Read.AreReadUpto, Read.MissesOne, Inputs.Inputs, Inputs.AreRead, Inputs.AreAccepted, Inputs.first_some}
+use Rattle.viz_run.specs.{Refusals.file_refused, Refusals.plan_read, declared.refused.InputError.InputError, Stepped.refused_of, Stepped.Makes}
+use Rattle.viz_run.specs.{Schedule.events_of, Schedule.schedule_refused, Scheduled.AreTaken, Scheduled.AreGiven, Scheduled.refused_among}
+use Rattle.viz_run.specs.{declared.refused.Refused.Refused, Causes.RefusesFor, Stops.stop_for, declared.stop.Stop.Stop}
 use Rattle.viz_run.specs.declared.refused.InputError.TheVariants as input_error
-use Rattle.vz_rules.specs.Command.{Word, Step, Hit}
-use Rattle.vz_rules.specs.Plan.{Plan}
-use Rattle.vz_rules.specs.declared.entry.Event.{Event}
-use Rattle.viz_run.specs.Causes.{RefusesFor}
-use Rattle.viz_run.specs.Inputs.{Inputs, AreRead, AreAccepted, first_some}
-use Rattle.viz_run.specs.Scheduled.{AreTaken, AreGiven, refused_among}
-use Rattle.viz_run.specs.Stepped.{refused_of, Makes}
-use Rattle.viz_run.specs.Stops.{stop_for}
-use Rattle.viz_run.specs.declared.stop.Stop.{Stop}
+use Rattle.vz_rules.specs.{Command.Word, Command.Step, Command.Hit, Plan.Plan, declared.entry.Event.Event}
 use Rattle.viz_run.specs.declared.stop.Stop.TheVariants as stop
 use Rattle.vz_geom.specs.declared.Size.{Size}
 

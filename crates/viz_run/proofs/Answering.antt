@@ -2,26 +2,20 @@
 use Rattle.std.proofs.Common.{rules, ◌≡◌, ◌≢◌, ℕ, ◌+◌, ◌≤◌, ◌⊎◌, Bool, true, false, nat_lt, Some, None, Result, Ok, Err, IsErrOf, IsTrue, List, [], ◌∷◌, take, inl, inr, refl, sym, ap, ◌∙◌, subst, arith}
 use Rattle.std.proofs.lemmas.Bool.{ltb-true, ltb-false}
 use Rattle.vz_base.specs.declared.limits.TheConstants.{MOST_FILE_BYTES, MOST_EVENTS, MOST_LOG_BYTES}
-use Rattle.vz_outside.specs.Faults.{one_more, CountRose}
+use Rattle.vz_outside.specs.{Faults.one_more, Faults.CountRose, Shelved.Shelved, Shelved.Name, Sunk.Sunk, Sunk.Takes, Sunk.TakesFront}
 use Rattle.vz_outside.proofs.Rises.{one_more_least, one_more_rose}
-use Rattle.vz_outside.specs.Shelved.{Shelved, Name}
-use Rattle.vz_outside.specs.Sunk.{Sunk, Takes, TakesFront}
 use Rattle.vz_outside.specs.Sunk as sinks
 use Rattle.vz_player.specs.Written.{Output, AreWhole, AreBegun}
-use Rattle.viz_run.specs.Read.{IsReadUpto, AreReadUpto}
-use Rattle.viz_run.specs.declared.refused.Refused.{Refused}
+use Rattle.viz_run.specs.{Read.IsReadUpto, Read.AreReadUpto, Lines.words_line, Lines.refused_line, Stops.Behaves, Stops.IsRefusal, Stops.due_line}
+use Rattle.viz_run.specs.{declared.refused.Refused.Refused, declared.stop.Stop.Stop}
 use Rattle.vz_rules.specs.Command.{Word, Command, Run, Step, Check, Gen, Demo, Hit, Turns}
 use Rattle.vz_words.proofs.One.{same_command}
 use Rattle.vz_rules.specs.declared.entry.Entry.{Entry}
-use Rattle.viz_run.specs.Commands.{Asks, AsksNothing, frame_names}
+use Rattle.viz_run.specs.{Commands.Asks, Commands.AsksNothing, Commands.frame_names, Ends.IsAsked, Ends.IsPart, Ends.IsUnbegun, Ends.outputs_of}
 use Rattle.viz_run.specs.Inputs.{Inputs, AreHeld, AreRead, AreAccepted, AreRefused, first_refused, plan_of, events_for}
-use Rattle.viz_run.specs.Ends.{IsAsked, IsPart, IsUnbegun, outputs_of}
 use Rattle.viz_run.specs.Causes.{DoesAll, RefusesOne, LeavesFront, IsDue, MissesLine, PrintsFront, RefusesWords, RefusesInput}
-use Rattle.viz_run.specs.Lines.{words_line, refused_line}
 use Rattle.viz_run.specs.Site.{Site, site, outside, CountsNoFault, CountsOneFault, IsFaultless, KeepsFaultless, IsCalled}
 use Rattle.viz_run.proofs.Demonstrated.{all_played}
-use Rattle.viz_run.specs.Stops.{Behaves, IsRefusal, due_line}
-use Rattle.viz_run.specs.declared.stop.Stop.{Stop}
 use Rattle.viz_run.specs.declared.stop.Stop.TheVariants as stop
 
 -- What is read is read once

@@ -2,8 +2,7 @@
 use Rattle.std.proofs.Common.{◌≡◌, ◌≢◌, ℕ, ◌≤◌, [], ◌∷◌, Bool, true, false, not, ◌&&◌, ◌||◌, ◌==◌, IsTrue, refl, sym, ap, ◌∙◌, arith}
 use Rattle.std.specs.List.{list_all}
 use Rattle.vz_base.specs.declared.limits.TheConstants.{MOST_ROUNDS}
-use Rattle.vz_frame.specs.Fits.{within}
-use Rattle.vz_frame.specs.Frame.{has_repeat}
+use Rattle.vz_frame.specs.{Fits.within, Frame.has_repeat}
 use Rattle.vz_rules.specs.Command.{Word, Gen, fits_command, is_name, are_names, same_text}
 use Rattle.viz_run.proofs.Making.{AreApart}
 

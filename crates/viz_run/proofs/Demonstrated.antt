@@ -4,17 +4,11 @@ use Rattle.std.proofs.lemmas.List.Elements.{All-nil, All-cons}
 use Rattle.vz_base.specs.declared.limits.TheConstants.{DEFAULT_BUFFERS}
 use Rattle.vz_display.specs.Displayed.{upto_most}
 use Rattle.vz_gen.specs.Make.{make}
-use Rattle.vz_rules.specs.Command.{Demo}
-use Rattle.vz_rules.specs.Frames.{painted}
-use Rattle.vz_rules.specs.Plan.{Plan}
-use Rattle.vz_rules.specs.Step.{NamesClient, Legal, LegalFrom}
-use Rattle.vz_rules.specs.declared.entry.Event.{Event}
+use Rattle.vz_rules.specs.{Command.Demo, Plan.Plan}
+use Rattle.vz_rules.specs.{Frames.painted, Step.NamesClient, Step.Legal, Step.LegalFrom, declared.entry.Event.Event, declared.entry.Entry.Entry}
 use Rattle.vz_rules.specs.declared.entry.Event.TheVariants as event
-use Rattle.vz_rules.specs.declared.entry.Entry.{Entry}
-use Rattle.viz_run.specs.Planned.{demo_plan}
+use Rattle.viz_run.specs.{Planned.demo_plan, Ends.IsHistory, Ends.events_in, Lines.drawn_count, Lines.return_count, Lines.demo_text, Lines.end_line}
 use Rattle.viz_run.specs.Demo.{demo_events, four, round, rounds}
-use Rattle.viz_run.specs.Ends.{IsHistory, events_in}
-use Rattle.viz_run.specs.Lines.{drawn_count, return_count, demo_text, end_line}
 
 module _ (n : ℕ) where
   client_named : (c : ℕ) → 0 < c → c ≤ 3 → NamesClient (demo_plan n) (event.Client c)

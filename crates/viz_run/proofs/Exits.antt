@@ -5,34 +5,20 @@ use Rattle.vz_outside.specs.Shelved.{Shelved, SameFiles}
 use Rattle.vz_outside.specs.Shelved.{Behaves as CallBehaves}
 use Rattle.vz_outside.specs.declared.shelf.ShelfError.{ShelfError}
 use Rattle.vz_outside.specs.declared.shelf.ShelfError.TheVariants as shelf_error
-use Rattle.vz_outside.proofs.Behaving.{on_err}
-use Rattle.vz_outside.proofs.Calls.{Ran, ran_none, ran_then_ran}
+use Rattle.vz_outside.proofs.{Behaving.on_err, Calls.Ran, Calls.ran_none, Calls.ran_then_ran}
 use Rattle.vz_player.specs.Written.{AreWhole, AreBegun, KeepsAllBut}
-use Rattle.vz_rules.specs.Command.{Word, Command}
-use Rattle.vz_rules.specs.Frames.{Honest, frames, written}
-use Rattle.vz_rules.specs.Plan.{Plan, IsPlan}
-use Rattle.vz_rules.specs.Step.{Legal}
-use Rattle.vz_rules.specs.World.{Machine, opening}
-use Rattle.vz_rules.specs.declared.entry.Event.{Event}
-use Rattle.vz_rules.specs.declared.entry.Entry.{Entry}
+use Rattle.vz_rules.specs.{Command.Word, Command.Command, Frames.Honest, Frames.frames, Frames.written, Step.Legal, World.Machine, World.opening}
+use Rattle.vz_rules.specs.{Plan.Plan, Plan.IsPlan, declared.entry.Event.Event, declared.entry.Entry.Entry}
 use Rattle.vz_rules.proofs.Chained.{written_is}
-use Rattle.viz_run.specs.Answered.{AnswersFor, AnswersAll}
-use Rattle.viz_run.specs.Causes.{DoesFor, LeavesFor, RefusesFor}
+use Rattle.viz_run.specs.{Answered.AnswersFor, Answered.AnswersAll, Read.MissesOne, Stops.Behaves, Stops.stop_of, declared.refused.Refused.Refused}
+use Rattle.viz_run.specs.{Causes.DoesFor, Causes.LeavesFor, Causes.RefusesFor, Inputs.Inputs, Inputs.AreAccepted, Inputs.plan_of, Inputs.events_for}
 use Rattle.viz_run.specs.Commands.{Asks, AsksNothing, buffers_of, input_names, output_names}
 use Rattle.viz_run.specs.Ends.{IsHistory, IsAsked, IsPart, TellsEnd, outputs_of, points_of}
-use Rattle.viz_run.specs.Inputs.{Inputs, AreAccepted, plan_of, events_for}
-use Rattle.viz_run.specs.Read.{MissesOne}
-use Rattle.viz_run.specs.Site.{Site, site}
-use Rattle.viz_run.specs.Stepped.{Makes}
-use Rattle.viz_run.specs.Stops.{Behaves, stop_of}
-use Rattle.viz_run.specs.declared.end.End.{End}
-use Rattle.viz_run.specs.declared.refused.Refused.{Refused}
-use Rattle.viz_run.specs.declared.stop.Stop.{Stop}
+use Rattle.viz_run.specs.{Site.Site, Site.site, Stepped.Makes, declared.end.End.End, declared.stop.Stop.Stop}
 use Rattle.viz_run.specs.declared.stop.Stop.TheVariants as stop
-use Rattle.viz_run.proofs.Opened.{its_plan}
+use Rattle.viz_run.proofs.{Opened.its_plan, Stopping.stops_at, Stopping.stops_after}
 use Rattle.viz_run.proofs.Performing.{if_ok, at_err, ok_at_err, behaves_for, none_refused, unrefused, memory_no_fault, others_of, misses_of}
 use Rattle.viz_run.proofs.Stepping.{begun_since, others_since, holds_at_err, ok_is_none, same_err, stays_at}
-use Rattle.viz_run.proofs.Stopping.{stops_at, stops_after}
 
 -- the words that ask for a command ask for its answer
 pub asked_for :

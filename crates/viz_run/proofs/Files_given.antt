@@ -2,15 +2,11 @@
 use Rattle.std.proofs.Common.{◌≡◌, ℕ, Option, Some, None, List, [], refl, ◌∙◌}
 use Rattle.vz_base.specs.declared.limits.TheConstants.{MOST_FILE_BYTES}
 use Rattle.vz_geom.specs.declared.Size.{Size}
-use Rattle.viz_run.specs.Read.{AreReadUpto}
-use Rattle.viz_run.specs.Refusals.{file_refused, plan_read}
-use Rattle.viz_run.specs.declared.refused.Refused.{Refused}
+use Rattle.viz_run.specs.{Read.AreReadUpto, Causes.RefusesFor}
+use Rattle.viz_run.specs.{Refusals.file_refused, Refusals.plan_read, declared.refused.Refused.Refused, Planning.ArePlanned, Planning.AreUnplanned}
 use Rattle.vz_outside.specs.Shelved.{Shelved}
-use Rattle.vz_rules.specs.Command.{Word, Command}
-use Rattle.vz_rules.specs.Plan.{Plan}
-use Rattle.viz_run.specs.Causes.{RefusesFor}
+use Rattle.vz_rules.specs.{Command.Word, Command.Command, Plan.Plan}
 use Rattle.viz_run.specs.Inputs.{Inputs, AreRead, AreAccepted, first_some, first_refused, plan_of}
-use Rattle.viz_run.specs.Planning.{ArePlanned, AreUnplanned}
 
 -- the inputs, as they were read
 abbrev pub inputs_of : List (List ℕ) → Inputs

@@ -1,16 +1,10 @@
 -- What the words of `step`, `hit`, `check`, `turns` and `run` say of the display, of the names and of the buffers.
 use Rattle.std.proofs.Common.{◌≡◌, ℕ, ◌+◌, ◌≤◌, ◌<◌, nat_lt, pos, Option, Some, None, List, [], ◌∷◌, length, Bool, true, false, not, ◌||◌, ◌&&◌, leb, IsTrue, sym, ap, ◌∙◌, arith}
-use Rattle.std.proofs.lemmas.Bool.{and_parts, leb-true, ltb-true}
-use Rattle.std.proofs.lemmas.Int.{ints}
-use Rattle.std.proofs.lemmas.List.{length-map}
-use Rattle.std.specs.String.{string_bytes}
-use Rattle.std.specs.declared.string.String.{String}
-use Rattle.std.specs.List.{list_any, list_all}
+use Rattle.std.proofs.{lemmas.Bool.and_parts, lemmas.Bool.leb-true, lemmas.Bool.ltb-true, lemmas.Int.ints, lemmas.List.length-map}
+use Rattle.std.specs.{String.string_bytes, declared.string.String.String, List.list_any, List.list_all}
 use Rattle.vz_base.specs.declared.limits.TheConstants.{MOST_FILES, MOST_BUFFERS, MOST_TICKS, GREATEST_DISPLAY_SIDE}
-use Rattle.vz_frame.specs.Fits.{within}
-use Rattle.vz_frame.specs.Frame.{has_repeat}
-use Rattle.vz_geom.specs.Display.{IsDisplaySize}
-use Rattle.vz_geom.specs.Rectangle.{has, sized}
+use Rattle.vz_frame.specs.{Fits.within, Frame.has_repeat}
+use Rattle.vz_geom.specs.{Display.IsDisplaySize, Rectangle.has, Rectangle.sized}
 use Rattle.viz_run.specs.Read.{texts}
 use Rattle.vz_rules.specs.Command.{Word, Run, Step, Check, Hit, Turns, fits_command, buffers_fit, buffer_count, frames_fit, are_sides, are_files, is_name, are_names, same_text}
 

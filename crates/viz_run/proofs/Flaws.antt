@@ -4,14 +4,10 @@ use Rattle.std.proofs.lemmas.Bool.{lt-ltb, le-ltb}
 use Rattle.std.specs.Option.{option_map}
 use Rattle.vz_base.specs.declared.limits.TheConstants.{MOST_FILE_BYTES}
 use Rattle.vz_frame.specs.declared.message.ClientFile.{ClientFile}
-use Rattle.vz_codec.specs.declared.fault.FileRule.{FileRule}
-use Rattle.vz_codec.specs.Reading.{Fault, file_in}
-use Rattle.vz_codec.specs.Grammar.{Wrong, placed, wrong}
+use Rattle.vz_codec.specs.{declared.fault.FileRule.FileRule, Reading.Fault, Reading.file_in, Grammar.Wrong, Grammar.placed, Grammar.wrong}
 use Rattle.viz_run.specs.declared.refused.Reason.TheVariants.{Rule, SinkTaken, Long}
-use Rattle.viz_run.specs.declared.refused.Refused.{Refused}
-use Rattle.viz_run.specs.declared.refused.InputError.{InputError}
+use Rattle.viz_run.specs.{declared.refused.Refused.Refused, declared.refused.InputError.InputError, Decoded.IsDecoded}
 use Rattle.viz_run.specs.declared.refused.InputError.TheVariants as input_error
-use Rattle.viz_run.specs.Decoded.{IsDecoded}
 use Rattle.viz_run.specs.Refusals.{Flaw, sink_place, takes_sink, file_flaw, refused_at}
 
 -- bytes above the limit are too long

@@ -1,10 +1,7 @@
 -- Files read one after the other.
 use Rattle.std.proofs.Common.{◌≡◌, ℕ, zero, suc, IsTrue, ◌+◌, ◌<◌, List, [], ◌∷◌, ◌++◌, length, take, get_or, Ok, inl, inr, sym, ap, ◌∙◌, subst, arith}
-use Rattle.std.proofs.lemmas.Grind.{take_at_read}
-use Rattle.std.proofs.lemmas.List.{map-append, length-append}
-use Rattle.std.specs.declared.string.String.{String}
-use Rattle.std.specs.declared.vec.Vec.{Vec}
-use Rattle.std.specs.String.{string_bytes}
+use Rattle.std.proofs.{lemmas.Grind.take_at_read, lemmas.List.map-append, lemmas.List.length-append}
+use Rattle.std.specs.{declared.string.String.String, declared.vec.Vec.Vec, String.string_bytes}
 use Rattle.vz_outside.specs.Shelved.{Shelved, Name, IsMissing, SameFiles, BehavesUnless}
 use Rattle.vz_outside.proofs.Calls.{Ran, ran_one, ran_then_ran, files_then_files}
 use Rattle.viz_run.specs.Read.{IsReadUpto, AreReadUpto, MissesOne, texts, contents}

@@ -2,12 +2,10 @@
 use Rattle.std.proofs.Common.{◌≡◌, ℕ, Some, List, [], ◌∷◌, refl, sym, ap, ◌∙◌}
 use Rattle.vz_base.specs.declared.limits.TheConstants.{MOST_FILE_BYTES, MOST_LOG_BYTES}
 use Rattle.vz_check.specs.Judged.{Gives}
-use Rattle.viz_run.specs.Read.{IsReadUpto, AreReadUpto}
+use Rattle.viz_run.specs.{Read.IsReadUpto, Read.AreReadUpto, Inputs.Inputs, Inputs.AreRead, Inputs.first_refused, Judged.refused_of}
 use Rattle.vz_outside.specs.Shelved.{Shelved, IsCall, SameFiles, Holds, Name}
 use Rattle.vz_outside.proofs.Calls.{Ran, known_after}
 use Rattle.vz_rules.specs.Command.{Word, Check}
-use Rattle.viz_run.specs.Inputs.{Inputs, AreRead, first_refused}
-use Rattle.viz_run.specs.Judged.{refused_of}
 use Rattle.viz_run.proofs.Admitting.{read_first}
 
 -- the inputs of `check`, as they were read

@@ -1,7 +1,6 @@
 -- A machine that was opened with a plan.
 use Rattle.std.proofs.Common.{◌≡◌, sym, ap, subst, ◌∙◌}
-use Rattle.vz_rules.specs.Plan.{Plan}
-use Rattle.vz_rules.specs.World.{Machine, opening}
+use Rattle.vz_rules.specs.{Plan.Plan, World.Machine, World.opening}
 
 module _ (m : Machine) (p : Plan) (is : m ≡ record { plan = p; world = opening p }) where
   -- its plan is that one

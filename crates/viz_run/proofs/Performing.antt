@@ -2,30 +2,19 @@
 use Rattle.std.proofs.Common.{rules, ◌≡◌, ℕ, ◌+◌, ◌≤◌, Result, Ok, Err, IfOk, IfErr, OnErr, IsErrOf, IsErrAnd, IsTrue, List, [], ◌∷◌, take, inr, refl, sym, subst, ◌∙◌, arith}
 use Rattle.vz_base.specs.declared.limits.TheConstants.{DEFAULT_BUFFERS, MOST_ROUNDS}
 use Rattle.vz_gen.specs.Make.{make}
-use Rattle.viz_run.specs.Read.{MissesOne}
-use Rattle.viz_run.specs.Refusals.{refused_behind}
-use Rattle.vz_outside.specs.Shelved.{Shelved}
-use Rattle.vz_outside.specs.declared.shelf.ShelfError.{ShelfError}
+use Rattle.viz_run.specs.{Read.MissesOne, Refusals.refused_behind, Demo.demo_events, Site.site, declared.stop.Stop.Stop}
+use Rattle.vz_outside.specs.{Shelved.Shelved, declared.shelf.ShelfError.ShelfError}
 use Rattle.vz_outside.specs.declared.shelf.ShelfError.TheVariants as shelf_error
 use Rattle.vz_player.specs.Written.{AreWhole, AreBegun, KeepsAllBut}
 use Rattle.vz_rules.proofs.Chained.{written_is}
 use Rattle.vz_rules.specs.Command.{Word, Command, Check, Gen, Demo, fits_command, IsCommand, IsNoCommand}
 use Rattle.vz_rules.specs.Frames.{frames, written, painted, written_of, painted_of, drawn_frames, drawn_frames_from}
-use Rattle.vz_rules.specs.Plan.{Plan, IsPlan}
-use Rattle.vz_rules.specs.Step.{Legal, LegalFrom}
-use Rattle.vz_rules.specs.declared.entry.Entry.{Entry}
-use Rattle.vz_words.specs.Words.{command_of}
-use Rattle.vz_words.specs.declared.commands.Command.{Command as Found}
+use Rattle.vz_rules.specs.{Plan.Plan, Plan.IsPlan, Step.Legal, Step.LegalFrom, declared.entry.Entry.Entry}
+use Rattle.vz_words.specs.{Words.command_of, declared.commands.Command.Command as Found}
 use Rattle.viz_run.specs.Commands.{Asks, AsksNothing, buffers_of, input_names, output_names}
-use Rattle.viz_run.specs.Inputs.{Inputs, no_inputs, AreAccepted, plan_of}
-use Rattle.viz_run.specs.Planned.{demo_plan}
-use Rattle.viz_run.specs.Demo.{demo_events}
-use Rattle.viz_run.specs.Causes.{DoesFor, LeavesFor, KeepsOthers, FindsInputs}
+use Rattle.viz_run.specs.{Inputs.Inputs, Inputs.no_inputs, Inputs.AreAccepted, Inputs.plan_of, Planned.demo_plan, Lines.made_line, Lines.end_line}
+use Rattle.viz_run.specs.{Causes.DoesFor, Causes.LeavesFor, Causes.KeepsOthers, Causes.FindsInputs, Stops.Behaves, Stops.IsRefusal, Stops.stop_of}
 use Rattle.viz_run.specs.Ends.{IsHistory, IsAsked, IsDone, TellsEnd, outputs_of, points_of, named_files}
-use Rattle.viz_run.specs.Lines.{made_line, end_line}
-use Rattle.viz_run.specs.Site.{site}
-use Rattle.viz_run.specs.Stops.{Behaves, IsRefusal, stop_of}
-use Rattle.viz_run.specs.declared.stop.Stop.{Stop}
 use Rattle.viz_run.specs.declared.stop.Stop.TheVariants as stop
 
 -- Of answers

@@ -1,11 +1,8 @@
 -- From what a run came to to what `run` answers.
 use Rattle.std.proofs.Common.{◌≡◌, ℕ, ◌+◌, ◌<◌, List, [], ◌∷◌, ◌++◌, length, take, get_or, sym, ap, subst, ◌∙◌}
-use Rattle.std.proofs.lemmas.Grind.{take_at_read}
-use Rattle.std.proofs.lemmas.List.{map-append}
+use Rattle.std.proofs.{lemmas.Grind.take_at_read, lemmas.List.map-append}
 use Rattle.vz_frame.specs.declared.message.ClientFile.{ClientFile}
-use Rattle.vz_rules.specs.Plan.{Plan}
-use Rattle.vz_rules.specs.Step.{Legal, LegalFrom}
-use Rattle.vz_rules.specs.declared.entry.Entry.{Entry}
+use Rattle.vz_rules.specs.{Plan.Plan, Step.Legal, Step.LegalFrom, declared.entry.Entry.Entry}
 use Rattle.viz_run.specs.Ran.{counts_of}
 
 -- the counts of the files up to behind a place

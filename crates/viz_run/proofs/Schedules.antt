@@ -2,24 +2,18 @@
 use Rattle.std.proofs.Common.{rules, ◌≡◌, ℕ, ◌+◌, ◌<◌, ◌≤◌, Bool, true, false, cond, not, ◌||◌, ◌==◌, leb, nat_lt, if◌then◌else◌, Option, Some, None, All, List, [], ◌∷◌, ◌++◌, take, drop, get_or, length, refl, sym, ap, ◌∙◌, subst, arith}
 use mir.Val.{bool_byte}
 use Rattle.std.proofs.Common.{drop-cons, add-one}
-use Rattle.std.proofs.lemmas.Grind.{take_at_read}
+use Rattle.std.proofs.{lemmas.Grind.take_at_read, lemmas.Bool.le-ltb, lemmas.Bool.leb-true, lemmas.Bool.and_parts}
 use Rattle.std.proofs.lemmas.List.Elements.{filter_map-append, All-append, All-cons, All-nil}
 use Rattle.vz_base.specs.declared.limits.TheConstants.{MOST_FILES, MOST_EVENTS}
-use Rattle.std.proofs.lemmas.List.Sums.{count_by_more_yes, count_by_more_no}
-use Rattle.std.specs.List.{cons_option}
-use Rattle.std.specs.Option.{option_map}
-use Rattle.std.proofs.lemmas.List.{drop_all, length-take-le}
-use Rattle.std.proofs.lemmas.Bool.{le-ltb, leb-true, and_parts}
+use Rattle.std.proofs.{lemmas.List.Sums.count_by_more_yes, lemmas.List.Sums.count_by_more_no, lemmas.List.drop_all, lemmas.List.length-take-le}
+use Rattle.std.specs.{List.cons_option, Option.option_map}
 use Rattle.vz_frame.specs.Fits.{within}
 use Rattle.vz_rules.specs.declared.entry.Event.TheVariants as event
 use Rattle.vz_codec.specs.declared.fault.FileRule.TheVariants as fault
-use Rattle.vz_rules.specs.declared.entry.Event.{Event}
+use Rattle.vz_rules.specs.{declared.entry.Event.Event, Plan.Plan, Step.NamesClient}
 use Rattle.vz_geom.specs.declared.Size.{Size}
-use Rattle.vz_rules.specs.Plan.{Plan}
-use Rattle.vz_rules.specs.Step.{NamesClient}
 use Rattle.vz_codec.specs.declared.fault.FileRule.{FileRule}
-use Rattle.viz_run.specs.declared.refused.Reason.TheVariants.{Rule, Long}
-use Rattle.viz_run.specs.Refusals.{Flaw, refused_at}
+use Rattle.viz_run.specs.{declared.refused.Reason.TheVariants.Rule, declared.refused.Reason.TheVariants.Long, Refusals.Flaw, Refusals.refused_at}
 use Rattle.viz_run.specs.declared.refused.Refused.{Refused}
 use Rattle.viz_run.specs.Schedule.{event_of, events_of, is_event, is_draw, draws_in, rule_broken, flaw_behind, schedule_refused}
 

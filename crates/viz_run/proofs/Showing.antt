@@ -1,21 +1,12 @@
 -- What a player that was given events leaves: its history, and the frames of that history.
 use Rattle.std.proofs.Common.{◌≡◌, ℕ, List, [], ◌++◌, length, take, sym, ap, subst, ◌∙◌, inl, inr, arith}
 use Rattle.vz_outside.specs.Shelved.{Shelved, Name, Appends, AppendsFront}
-use Rattle.vz_player.specs.Taken.{played_all, StopsAmong, AddsFrames, AddsFramesFront}
-use Rattle.vz_player.proofs.Growing.{frames_then_frames, no_frames}
-use Rattle.vz_player.proofs.Outs.{whole_front}
-use Rattle.vz_player.proofs.Taking.{events_all, plan_all, buffers_all}
+use Rattle.vz_player.specs.{Taken.played_all, Taken.StopsAmong, Taken.AddsFrames, Taken.AddsFramesFront, Played.Played, Played.first_played}
+use Rattle.vz_player.proofs.{Growing.frames_then_frames, Growing.no_frames, Outs.whole_front, Taking.events_all, Taking.plan_all, Taking.buffers_all}
 use Rattle.vz_pixels.specs.Colour.{Colour}
-use Rattle.vz_player.specs.Played.{Played, first_played}
-use Rattle.vz_rules.specs.Frames.{written, frames_bytes}
-use Rattle.vz_rules.specs.Log.{rest_of}
-use Rattle.vz_rules.specs.Plan.{Plan}
-use Rattle.vz_rules.specs.Step.{Legal}
-use Rattle.vz_rules.specs.declared.entry.Event.{Event}
-use Rattle.vz_rules.specs.declared.entry.Entry.{Entry}
-use Rattle.vz_rules.specs.declared.entry.Rest.{Rest}
-use Rattle.viz_run.specs.Ends.{IsHistory, events_in}
-use Rattle.viz_run.specs.Taken.{HasTaken}
+use Rattle.vz_rules.specs.{Frames.written, Frames.frames_bytes, declared.entry.Event.Event, declared.entry.Entry.Entry, declared.entry.Rest.Rest}
+use Rattle.vz_rules.specs.{Log.rest_of, Plan.Plan, Step.Legal}
+use Rattle.viz_run.specs.{Ends.IsHistory, Ends.events_in, Taken.HasTaken}
 
 -- a player that has taken some events
 pub has_played : (old new : Played) (es : List Event) → new ≡ played_all old es → HasTaken es old new

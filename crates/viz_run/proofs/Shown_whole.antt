@@ -2,13 +2,9 @@
 use Rattle.std.proofs.Common.{◌≡◌, ◌≢◌, ℕ, List, [], ◌∷◌, Ok, refl, sym, subst, ◌∙◌, inr}
 use Rattle.vz_outside.specs.Shelved.{Shelved, Name, IsCall, KeepsOthers, Appends, AppendsFront, Behaves}
 use Rattle.vz_outside.proofs.Calls.{Ran, ran_then_ran, known_after, call_then_call}
-use Rattle.vz_player.specs.Written.{KeepsAllBut, WritesAll, WritesSome, IsOut}
-use Rattle.vz_player.specs.declared.outputs.Outputs.{Outputs}
+use Rattle.vz_player.specs.{Written.KeepsAllBut, Written.WritesAll, Written.WritesSome, Written.IsOut, declared.outputs.Outputs.Outputs}
 use Rattle.vz_player.proofs.Outs.{both, out_kept, out_more, others_named, front_of_out, front_of_begun, Stands, made_stands, log_stands, log_cut, stands_whole}
-use Rattle.vz_rules.specs.Log.{log_text, rest_of}
-use Rattle.vz_rules.specs.Plan.{Plan}
-use Rattle.vz_rules.specs.declared.entry.Entry.{Entry}
-use Rattle.vz_rules.specs.declared.entry.Rest.{Rest}
+use Rattle.vz_rules.specs.{Log.log_text, Log.rest_of, Plan.Plan, declared.entry.Entry.Entry, declared.entry.Rest.Rest}
 use Rattle.vz_threads.specs.Courses.{frames_of}
 use Rattle.viz_run.specs.Ends.{log_of, frames_and_log}
 

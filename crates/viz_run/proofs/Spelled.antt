@@ -1,11 +1,9 @@
 -- The bytes of a line.
 use Rattle.std.proofs.Common.{◌≡◌, ℕ, List, [], ◌++◌, ap, sym, ◌∙◌, append_assoc, codes}
 use Rattle.std.specs.Fmt.{decimal}
-use Rattle.vz_check.specs.declared.verdict.What.{What}
-use Rattle.vz_check.specs.declared.verdict.Verdict.TheVariants.{No}
-use Rattle.viz_run.specs.declared.refused.Refused.{Refused}
+use Rattle.vz_check.specs.{declared.verdict.What.What, declared.verdict.Verdict.TheVariants.No}
+use Rattle.viz_run.specs.{declared.refused.Refused.Refused, Lines.refused_line, Lines.reason_text, Lines.verdict_line, Lines.what_text}
 use Rattle.vz_rules.specs.Log.{then_number}
-use Rattle.viz_run.specs.Lines.{refused_line, reason_text, verdict_line, what_text}
 
 -- the bytes up to the place of a refused input
 place_spelled :

@@ -3,8 +3,7 @@ use Rattle.std.proofs.Common.{rules, ◌≡◌, Result, Ok, Err, IsErrOf, IsErrA
 use Rattle.vz_outside.specs.Shelved.{Shelved, Name, IsCall, SameFiles}
 use Rattle.vz_outside.proofs.Calls.{Ran, known_after}
 use Rattle.vz_player.specs.Written.{Output, AreWhole, AreBegun, AreUnwritten, KeepsAllBut}
-use Rattle.viz_run.specs.Stops.{Behaves, IsRefusal}
-use Rattle.viz_run.specs.declared.stop.Stop.{Stop}
+use Rattle.viz_run.specs.{Stops.Behaves, Stops.IsRefusal, declared.stop.Stop.Stop}
 use Rattle.viz_run.specs.declared.stop.Stop.TheVariants as stop
 use Rattle.viz_run.proofs.Making.{front_since}
 

@@ -1,12 +1,9 @@
 -- That calls of a shelf behind which a call stops behave.
 use Rattle.std.proofs.Common.{rules, ◌≡◌, Result, Ok, Err, IsErrOf, IsErrAnd, refl, sym, ap, ◌∙◌}
-use Rattle.vz_outside.specs.Faults.{one_more}
-use Rattle.vz_outside.specs.Shelved.{Shelved, BehavesUnless}
-use Rattle.vz_outside.specs.declared.shelf.ShelfError.{ShelfError}
+use Rattle.vz_outside.specs.{Faults.one_more, Shelved.Shelved, Shelved.BehavesUnless, declared.shelf.ShelfError.ShelfError}
 use Rattle.vz_outside.specs.declared.shelf.ShelfError.TheVariants as shelf_error
 use Rattle.vz_outside.proofs.Calls.{Ran, call_then_call, faultless_then_faultless}
-use Rattle.viz_run.specs.Stops.{Behaves, stop_of}
-use Rattle.viz_run.specs.declared.stop.Stop.{Stop}
+use Rattle.viz_run.specs.{Stops.Behaves, Stops.stop_of, declared.stop.Stop.Stop}
 use Rattle.viz_run.specs.declared.stop.Stop.TheVariants as stop
 
 -- a stop for a fault is one for an error `Failed`

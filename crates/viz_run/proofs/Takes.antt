@@ -1,17 +1,12 @@
 -- What a player or a tester has taken, event by event.
 use Rattle.std.proofs.Common.{◌≡◌, ℕ, suc, ◌+◌, ◌<◌, false, List, [], ◌∷◌, ◌++◌, length, take, get_or, refl, sym, ap, subst, ◌∙◌, inl, inr, append_assoc, arith}
-use Rattle.std.proofs.Math.Seq.{take-suc}
-use Rattle.std.proofs.lemmas.List.{map-append}
+use Rattle.std.proofs.{Math.Seq.take-suc, lemmas.List.map-append}
 use Rattle.vz_display.specs.Displayed.{upto_most, display_at, display_after}
 use Rattle.vz_player.specs.Played.{Played, first_played, played_on, next_entry, painted_by, display_of, StopsAt}
-use Rattle.vz_rules.specs.Plan.{Plan}
-use Rattle.vz_rules.specs.declared.entry.Event.{Event}
-use Rattle.vz_rules.specs.declared.entry.Entry.{Entry}
-use Rattle.vz_rules.specs.Step.{entry_in, world}
-use Rattle.vz_rules.specs.Frames.{painted, painted_of, drawn_frames, drawn_frames_from}
+use Rattle.vz_rules.specs.{Plan.Plan, declared.entry.Entry.Entry, Frames.painted, Frames.painted_of, Frames.drawn_frames, Frames.drawn_frames_from}
+use Rattle.vz_rules.specs.{declared.entry.Event.Event, Step.entry_in, Step.world}
 use Rattle.vz_player.specs.Tested.{Tested, tested_on}
-use Rattle.viz_run.specs.Ends.{events_in}
-use Rattle.viz_run.specs.Taken.{HasTaken, HasTested}
+use Rattle.viz_run.specs.{Ends.events_in, Taken.HasTaken, Taken.HasTested}
 
 -- the event of an entry is that for which it was made
 event_of_next : (q : Played) (e : Event) → (next_entry q e).event ≡ e

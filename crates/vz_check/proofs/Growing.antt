@@ -1,19 +1,11 @@
 -- The frames of a history, one entry more at its end.
 use Rattle.std.proofs.Common.{◌≡◌, List, [], ◌∷◌, ◌++◌, map, refl, sym, ap, ◌∙◌, append-nil, append_assoc}
-use Rattle.std.specs.List.{flat_map}
-use Rattle.std.specs.Prelude.{ℕ}
-use Rattle.vz_rules.specs.Plan.{Plan}
-use Rattle.vz_rules.specs.World.{World, opening}
-use Rattle.vz_rules.specs.Scene.{scene_of}
-use Rattle.vz_rules.specs.Whole.{picture_in}
-use Rattle.vz_rules.specs.Step.{world, world_from}
+use Rattle.std.specs.{List.flat_map, Prelude.ℕ}
+use Rattle.vz_rules.specs.{Plan.Plan, Scene.scene_of, declared.entry.Entry.Entry, declared.entry.Reply.Reply}
+use Rattle.vz_rules.specs.{World.World, World.opening, Whole.picture_in, Step.world, Step.world_from, declared.entry.Reply.TheVariants.Drawn}
 use Rattle.vz_rules.specs.Frames.{DrawnFrame, drawn_frame_of, drawn_frames_from, drawn_frames, picture_of, frames, pixel_bytes, frames_bytes}
-use Rattle.vz_rules.specs.declared.entry.Entry.{Entry}
-use Rattle.vz_rules.specs.declared.entry.Reply.{Reply}
-use Rattle.vz_rules.specs.declared.entry.Reply.TheVariants.{Drawn}
 use Rattle.vz_rules.proofs.Runs.{drawn_frames_from-append}
-use Rattle.vz_check.specs.Verdict.{frames_of}
-use Rattle.vz_check.specs.Judged.{drawn_bytes}
+use Rattle.vz_check.specs.{Verdict.frames_of, Judged.drawn_bytes}
 
 -- the bytes of drawings
 abbrev shown_bytes : Plan → List DrawnFrame → List ℕ

@@ -1,11 +1,8 @@
 -- The lines of entries at the front of a text.
 use Rattle.std.proofs.Common.{◌≡◌, ℕ, ◌≤◌, true, codes, Some, List, [], ◌∷◌, ◌++◌, length, refl, sym, ap, ◌∙◌, append_assoc, append-nil, arith}
 use Rattle.std.specs.List.{flat_map, list_all}
-use Rattle.std.proofs.lemmas.Bool.{and_parts, and_from}
-use Rattle.std.proofs.lemmas.List.{length-append}
-use Rattle.std.proofs.lemmas.Grind.{flat_map-append}
-use Rattle.vz_rules.specs.declared.entry.Entry.{Entry}
-use Rattle.vz_rules.specs.declared.entry.Rest.{Rest}
+use Rattle.std.proofs.{lemmas.Bool.and_parts, lemmas.Bool.and_from, lemmas.List.length-append, lemmas.Grind.flat_map-append}
+use Rattle.vz_rules.specs.{declared.entry.Entry.Entry, declared.entry.Rest.Rest}
 use Rattle.vz_rules.specs.Log.{event_text, reply_text, effects_text, entry_text, log_text, held_text, open_text, has_text_entry, Spellable, BeginsWith}
 use Rattle.vz_journal.specs.Reading.{entry_at}
 use Rattle.vz_journal.proofs.Again_lines as again

@@ -5,14 +5,10 @@ use Rattle.std.proofs.lemmas.List.{length-append, append_cancel_left}
 use Rattle.vz_outside.specs.Shelved.{Shelved, Reading, ReadsOnly}
 use Rattle.vz_outside.proofs.Calls.{Ran}
 use Rattle.vz_rules.specs.Plan.{Plan, IsPlan}
-use Rattle.vz_rules.specs.World.{Machine, opening}
-use Rattle.vz_rules.specs.declared.entry.Event.{Event}
-use Rattle.vz_rules.specs.declared.entry.Entry.{Entry}
-use Rattle.vz_rules.specs.declared.entry.Rest.{Rest}
+use Rattle.vz_rules.specs.{World.Machine, World.opening, declared.entry.Event.Event, declared.entry.Entry.Entry, declared.entry.Rest.Rest}
 use Rattle.vz_rules.specs.Step.{entry_in, world, world_from, NamesClient, Legal, LegalFrom}
 use Rattle.vz_rules.specs.Log.{entry_text, log_text, rest_in, rest_of, has_text_entry, Spellable, BeginsWith}
-use Rattle.vz_rules.proofs.Runs.{world-more, legal-more}
-use Rattle.vz_rules.proofs.Kept_spelled.{legal_spelled}
+use Rattle.vz_rules.proofs.{Runs.world-more, Runs.legal-more, Kept_spelled.legal_spelled}
 use Rattle.vz_journal.specs.Answers.{IsLog, IsFirstEntry}
 use Rattle.vz_check.specs.declared.verdict.What.{What}
 use Rattle.vz_check.specs.declared.verdict.What.TheVariants.{LogText, Reply as OtherReply, Frame, Rest as OtherRest, Length}

@@ -1,27 +1,18 @@
 -- One verdict is true of a log and the bytes of its frames.
 use Rattle.std.proofs.Common.{◌≡◌, ℕ, ◌+◌, true, List, [], ◌∷◌, ◌++◌, length, ◌⊎◌, inl, inr, refl, sym, ap, subst, ◌∙◌, append_assoc, append-nil}
 use Rattle.std.specs.List.{list_all}
-use Rattle.std.proofs.lemmas.Bool.{and_parts}
-use Rattle.std.proofs.lemmas.List.{append_cancel_left}
-use Rattle.std.proofs.lemmas.Grind.{flat_map-append}
-use Rattle.vz_rules.specs.Plan.{Plan, IsPlan}
-use Rattle.vz_rules.specs.declared.entry.Entry.{Entry}
-use Rattle.vz_rules.specs.declared.entry.Rest.{Rest}
-use Rattle.vz_rules.specs.Step.{Legal}
+use Rattle.std.proofs.{lemmas.Bool.and_parts, lemmas.List.append_cancel_left, lemmas.Grind.flat_map-append}
+use Rattle.vz_rules.specs.{Plan.Plan, Plan.IsPlan, declared.entry.Entry.Entry, declared.entry.Rest.Rest, Step.Legal}
 use Rattle.vz_rules.specs.Log.{entry_text, log_text, rest_of, has_text_entry, Spellable, BeginsWith}
-use Rattle.vz_rules.proofs.Prefixes.{legal-at}
-use Rattle.vz_rules.proofs.Kept_spelled.{legal_spelled}
-use Rattle.vz_journal.specs.Answers.{IsLog}
-use Rattle.vz_journal.specs.Reading.{entry_at}
+use Rattle.vz_rules.proofs.{Prefixes.legal-at, Kept_spelled.legal_spelled}
+use Rattle.vz_journal.specs.{Answers.IsLog, Reading.entry_at}
 use Rattle.vz_journal.proofs.Again_lines as again
 use Rattle.vz_journal.proofs.Found.{one_value, log_is, end_no_entry}
 use Rattle.vz_check.specs.declared.verdict.What.{What}
 use Rattle.vz_check.specs.declared.verdict.What.TheVariants.{LogText, Reply, Frame, Rest as RestOf, Length}
-use Rattle.vz_check.specs.declared.verdict.Verdict.{Verdict}
-use Rattle.vz_check.specs.declared.verdict.Verdict.TheVariants.{Yes, No}
+use Rattle.vz_check.specs.{declared.verdict.Verdict.Verdict, declared.verdict.Verdict.TheVariants.Yes, declared.verdict.Verdict.TheVariants.No}
 use Rattle.vz_check.specs.Verdict.{frames_of, IsSound, IsNext, IsMade, IsFault, IsVerdict}
-use Rattle.vz_check.proofs.Growing.{frames_front}
-use Rattle.vz_check.proofs.Lines.{lines_of, one_more, one_entry, log_behind}
+use Rattle.vz_check.proofs.{Growing.frames_front, Lines.lines_of, Lines.one_more, Lines.one_entry, Lines.log_behind}
 
 -- of two histories they are one, or one begins with the other
 abbrev Longer : List Entry → List Entry → Type 0

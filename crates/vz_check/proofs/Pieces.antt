@@ -1,8 +1,7 @@
 -- The bytes of a frame, piece by piece.
 use Rattle.std.proofs.Common.{◌≡◌, ℕ, ◌+◌, ◌*◌, List, [], ◌∷◌, ◌++◌, length, take, drop, take-add, refl, sym, ap, ◌∙◌, arith}
 use Rattle.std.specs.List.{flat_map}
-use Rattle.std.proofs.lemmas.List.{take-append-drop}
-use Rattle.std.proofs.lemmas.Grind.{flat_map-append}
+use Rattle.std.proofs.{lemmas.List.take-append-drop, lemmas.Grind.flat_map-append}
 use Rattle.vz_pixels.specs.Colour.{Colour}
 use Rattle.vz_rules.specs.Frames.{pixel_bytes}
 

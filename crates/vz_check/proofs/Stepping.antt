@@ -2,19 +2,13 @@
 use Rattle.std.proofs.Common.{◌≡◌, Bool, true, false, None, Option, List, refl, sym, ap, subst, ◌∙◌}
 use Rattle.std.specs.Prelude.{is_some, if◌then◌else◌}
 use Rattle.vz_pixels.specs.Colour.{Colour}
-use Rattle.vz_rules.specs.Plan.{Plan}
-use Rattle.vz_rules.specs.declared.entry.Event.{Event}
+use Rattle.vz_rules.specs.{Plan.Plan, declared.entry.Effects.Effects, declared.entry.Entry.Entry, Messages.Answer, Messages.says, Messages.accepted}
+use Rattle.vz_rules.specs.{declared.entry.Event.Event, declared.entry.Reply.Reply, World.World, World.Client}
 use Rattle.vz_rules.specs.declared.entry.Event.TheVariants as event
-use Rattle.vz_rules.specs.declared.entry.Reply.{Reply}
 use Rattle.vz_rules.specs.declared.entry.Reply.TheVariants as reply
-use Rattle.vz_rules.specs.declared.entry.Effects.{Effects}
-use Rattle.vz_rules.specs.declared.entry.Entry.{Entry}
-use Rattle.vz_rules.specs.World.{World, Client}
-use Rattle.vz_rules.specs.Messages.{Answer, says, accepted}
 use Rattle.vz_rules.specs.Step.{Outcome, begin_answer, done_answer, answer_to, outcome_of, step_in, entry_in}
 use Rattle.vz_rules.proofs.Cases.{client_cases}
-use Rattle.vz_slow.specs.Drawn.{drawn_picture}
-use Rattle.vz_slow.specs.Reaching.{IsOutcome}
+use Rattle.vz_slow.specs.{Drawn.drawn_picture, Reaching.IsOutcome}
 use Rattle.vz_check.specs.Judged.{is_drawing}
 
 -- the entry of a step's reply and effects

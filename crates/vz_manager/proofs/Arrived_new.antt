@@ -4,25 +4,17 @@ use Rattle.std.proofs.Common.{refl, ap, sym, ◌∙◌, subst, cond, Contains}
 use Rattle.std.specs.List.{list_any}
 use Rattle.std.proofs.lemmas.Bool.{and_parts, both_ways, eqb-true}
 use Rattle.vz_base.specs.declared.limits.TheConstants.{TEMPORARY_TICKS}
-use Rattle.vz_ids.specs.declared.LocalSurfaceId.{LocalSurfaceId}
-use Rattle.vz_ids.specs.declared.SurfaceId.{SurfaceId}
-use Rattle.vz_ids.specs.Ids.{same_surface}
-use Rattle.vz_frame.specs.declared.frame.CompositorFrame.{CompositorFrame}
-use Rattle.vz_frame.specs.Frame.{frame_size}
+use Rattle.vz_ids.specs.{declared.LocalSurfaceId.LocalSurfaceId, declared.SurfaceId.SurfaceId, Ids.same_surface}
+use Rattle.vz_frame.specs.{declared.frame.CompositorFrame.CompositorFrame, Frame.frame_size}
 use Rattle.vz_rules.specs.World.{World, Client, Surface, FrameData, last_created}
 use Rattle.vz_rules.specs.Settle.{is_before, marked_by, ready, round, rounds, settle}
 use Rattle.vz_rules.specs.Reach.{is_named_now, has_closed, name_one, naming}
-use Rattle.vz_rules.specs.Messages.{accepted, id_of, is_last, with_surface}
-use Rattle.vz_rules.specs.Kept.{KeepsClients, stands_in}
+use Rattle.vz_rules.specs.{Messages.accepted, Messages.id_of, Messages.is_last, Messages.with_surface, Kept.KeepsClients, Kept.stands_in}
 use Rattle.vz_rules.proofs.Members.{map_contains, push_contains_last, any_at, any_map, found}
-use Rattle.vz_rules.proofs.Kept_submits.{one_of_number}
-use Rattle.vz_rules.proofs.Kept_reach.{named_after, naming_stays}
-use Rattle.vz_surface_manager.proofs.Accepted_kept.{same_named}
-use Rattle.vz_surface_manager.proofs.Quiet_changes.{same_closed, closes_submitting}
-use Rattle.vz_surface_manager.proofs.Set_owners.{never}
+use Rattle.vz_rules.proofs.{Kept_submits.one_of_number, Kept_reach.named_after, Kept_reach.naming_stays}
+use Rattle.vz_surface_manager.proofs.{Accepted_kept.same_named, Quiet_changes.same_closed, Quiet_changes.closes_submitting, Set_owners.never}
 use Rattle.vz_surface_manager.specs.Changes.{IsNew}
-use Rattle.vz_manager.specs.declared.outcome.New.{New}
-use Rattle.vz_manager.specs.Submitted.{created_by}
+use Rattle.vz_manager.specs.{declared.outcome.New.New, Submitted.created_by}
 
 -- a surface of this id was created in this tick by a client that is not closed; it exists, and nothing named it
 record IsFresh (w : World) (id : SurfaceId) (c : Surface) : Type 0 where

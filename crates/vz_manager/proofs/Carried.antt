@@ -7,42 +7,28 @@ use Rattle.std.specs.Prelude.{IsTrue, OnErr, Result, Ok, Err}
 use Rattle.std.proofs.lemmas.List.{length-map}
 use Rattle.vz_base.specs.declared.limits.TheConstants.{TEMPORARY_TICKS}
 use Rattle.vz_geom.specs.declared.Size.{Size}
-use Rattle.vz_ids.specs.declared.LocalSurfaceId.{LocalSurfaceId}
-use Rattle.vz_ids.specs.declared.SurfaceId.{SurfaceId}
-use Rattle.vz_ids.specs.declared.Sub.{Sub}
-use Rattle.vz_frame.specs.declared.frame.CompositorFrame.{CompositorFrame}
-use Rattle.vz_frame.specs.Roomy.{Roomy}
+use Rattle.vz_ids.specs.{declared.LocalSurfaceId.LocalSurfaceId, declared.SurfaceId.SurfaceId, declared.Sub.Sub}
+use Rattle.vz_frame.specs.{declared.frame.CompositorFrame.CompositorFrame, Roomy.Roomy}
 use Rattle.vz_rules.specs.declared.entry.Event.TheVariants as event
 use Rattle.vz_rules.specs.declared.entry.Fed.{Fed}
 use Rattle.vz_rules.specs.declared.entry.Reply.TheVariants as reply
-use Rattle.vz_rules.specs.declared.entry.Returned.{Returned}
-use Rattle.vz_rules.specs.Plan.{Plan}
-use Rattle.vz_rules.specs.World.{World, Client, last_created}
+use Rattle.vz_rules.specs.{declared.entry.Returned.Returned, Plan.Plan, World.World, World.Client, World.last_created, Step.outcome_of, Step.step_in}
 use Rattle.vz_rules.specs.Messages.{took, submitting, accepted, is_last, id_of}
-use Rattle.vz_rules.specs.Step.{outcome_of, step_in}
 use Rattle.vz_refs.specs.Referring.{Referring}
 use Rattle.vz_returns.specs.Lent.{NoneReleased, resources_out}
 use Rattle.vz_returns.proofs.Lent_rooms.{roomier_out}
-use Rattle.vz_surface_manager.specs.Flown.{Flown, subs_of, AreFlown}
+use Rattle.vz_surface_manager.specs.{Flown.Flown, Flown.subs_of, Flown.AreFlown, declared.surface_manager.SurfaceManager.SurfaceManager}
 use Rattle.vz_machine.specs.declared.machine.Step.{Step}
 use Rattle.vz_surface_manager.specs.declared.changes.Accepted.{Accepted}
-use Rattle.vz_surface_manager.specs.Frame_end.{flying_count}
-use Rattle.vz_surface_manager.specs.Acceptance.{IsReadier, new_one}
-use Rattle.vz_surface_manager.specs.declared.surface_manager.SurfaceManager.{SurfaceManager}
-use Rattle.vz_surface_manager.specs.Settles.{AreSettling, IsToSettle}
+use Rattle.vz_surface_manager.specs.{Frame_end.flying_count, Acceptance.IsReadier, Acceptance.new_one, Settles.AreSettling, Settles.IsToSettle}
 use Rattle.vz_support.specs.Supporting.{Supported, IsSupport}
-use Rattle.vz_manager.specs.declared.outcome.Following.{Following}
-use Rattle.vz_manager.specs.declared.outcome.New.{New}
-use Rattle.vz_manager.specs.declared.arriving.Coming.{Coming}
-use Rattle.vz_manager.specs.Serving.{Served, Serves, CanLand, IsStepOf}
+use Rattle.vz_manager.specs.{declared.outcome.Following.Following, Serving.Served, Serving.Serves, Serving.CanLand, Serving.IsStepOf}
+use Rattle.vz_manager.specs.{declared.outcome.New.New, declared.arriving.Coming.Coming}
 use Rattle.vz_manager.specs.Followed.{IsFollowed, IsWithin, IsBetween, CanFollow, new_id}
 use Rattle.vz_manager.specs.Submitted.{IsAllowed, IsSubmitting, IsComing, IsTakingIn, IsAcceptedAs, HasTakenIn}
 use Rattle.vz_manager.specs.Submitted.{HasRoomToSubmit, StillServe, created_by}
-use Rattle.vz_manager.proofs.Submits.{is_submitting, there, answer}
-use Rattle.vz_manager.proofs.Arrived_new.{created_new}
-use Rattle.vz_manager.proofs.Unlost.{arrived_unlost}
-use Rattle.vz_manager.proofs.Rooming.{can_follow}
-use Rattle.vz_manager.proofs.Stepped.{followed_answer, followed_flight, serves_after}
+use Rattle.vz_manager.proofs.{Submits.is_submitting, Submits.there, Submits.answer, Rooming.can_follow}
+use Rattle.vz_manager.proofs.{Arrived_new.created_new, Unlost.arrived_unlost, Stepped.followed_answer, Stepped.followed_flight, Stepped.serves_after}
 
 -- Room
 

@@ -1,17 +1,13 @@
 -- What the kind of a client's next message says of the client.
 use Rattle.std.proofs.Common.{◌≡◌, ℕ, Bool, true, false, Option, Some, None, Result, Ok, Err, OnErr, refl, sym, subst}
-use Rattle.vz_ids.specs.declared.FrameSinkId.{FrameSinkId}
-use Rattle.vz_ids.specs.declared.LocalSurfaceId.{LocalSurfaceId}
+use Rattle.vz_ids.specs.{declared.FrameSinkId.FrameSinkId, declared.LocalSurfaceId.LocalSurfaceId}
 use Rattle.vz_pixels.specs.Block.{Block}
-use Rattle.vz_frame.specs.declared.frame.CompositorFrame.{CompositorFrame}
-use Rattle.vz_frame.specs.declared.message.Message.{Message}
+use Rattle.vz_frame.specs.{declared.frame.CompositorFrame.CompositorFrame, declared.message.Message.Message}
 use Rattle.vz_frame.specs.declared.message.Message.TheVariants as message
-use Rattle.vz_rules.specs.Plan.{Plan}
-use Rattle.vz_rules.specs.World.{World, Client, client_at, next_message}
-use Rattle.vz_manager.specs.declared.kind.Kind.{Kind}
+use Rattle.vz_rules.specs.{Plan.Plan, World.World, World.Client, World.client_at, World.next_message}
+use Rattle.vz_manager.specs.{declared.kind.Kind.Kind, Kinds.sent_as, Kinds.kind_of}
 use Rattle.vz_manager.specs.declared.kind.Kind.TheVariants as kind
 use Rattle.vz_manager.specs.Serving.{Served, Serves, IsSending, HasNone, IsClosed}
-use Rattle.vz_manager.specs.Kinds.{sent_as, kind_of}
 
 -- what a kind says of the client of a number
 abbrev pub Found : Plan → World → ℕ → Client → Kind → Type 0

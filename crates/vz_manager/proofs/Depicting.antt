@@ -1,36 +1,21 @@
 -- A drawing's picture shows what can be seen of the state, and what changed in it is on the display.
 use Rattle.std.proofs.Common.{◌≡◌, true, false, Option, Some, None, List, [], ◌∷◌, map, refl, ap, sym, ◌∙◌, subst, Contains}
-use Rattle.vz_geom.specs.declared.Point.{Point}
-use Rattle.vz_geom.specs.declared.Size.{Size}
+use Rattle.vz_geom.specs.{declared.Point.Point, declared.Size.Size, Display.IsDisplaySize}
 use Rattle.vz_geom.specs.Rectangle.{Rectangle, Covers, has, sized, points_of}
-use Rattle.vz_geom.specs.Display.{IsDisplaySize}
 use Rattle.vz_ids.specs.declared.SurfaceId.{SurfaceId}
 use Rattle.vz_pixels.specs.Colour.{Colour, black}
-use Rattle.vz_rules.specs.declared.entry.Event.TheVariants.{Draw}
-use Rattle.vz_rules.specs.declared.entry.Reply.{Reply}
-use Rattle.vz_rules.specs.declared.entry.Reply.TheVariants.{Drawn, Unchanged}
-use Rattle.vz_rules.specs.Plan.{Plan}
+use Rattle.vz_rules.specs.{declared.entry.Event.TheVariants.Draw, declared.entry.Reply.TheVariants.Drawn, declared.entry.Reply.TheVariants.Unchanged}
+use Rattle.vz_rules.specs.{declared.entry.Reply.Reply, Plan.Plan, Paint.full, Paint.picture, Walk.walk_of, Walk.too_much, Kept.IsWhole}
 use Rattle.vz_rules.specs.World.{World, Scene, FrameData, Submission, active_frames}
-use Rattle.vz_rules.specs.Paint.{full, picture}
-use Rattle.vz_rules.specs.Walk.{walk_of, too_much}
-use Rattle.vz_rules.specs.Kept.{IsWhole}
 use Rattle.vz_rules.specs.Step.{draw_answer, answer_to, outcome_of, step_in, accepted_frames}
-use Rattle.vz_rules.proofs.Drawings.{Says, says_step}
-use Rattle.vz_rules.proofs.Kept_inside.{damage_covered}
-use Rattle.vz_rules.proofs.Members.{contains_here, contains_there, contains_map}
-use Rattle.vz_rules.proofs.Patches.{in_display}
-use Rattle.vz_surfaces.specs.Stored.{Stored, stored_of, bare_sub}
-use Rattle.vz_surfaces.specs.Reading.{seen_frames}
-use Rattle.vz_surfaces.specs.Keeping.{KeepsStored, KeepsFrames}
-use Rattle.vz_surfaces.proofs.Kept_of_world.{keeps_of_world}
-use Rattle.vz_surfaces.proofs.Telling.{seen_all}
+use Rattle.vz_rules.proofs.{Drawings.Says, Drawings.says_step, Members.contains_here, Members.contains_there, Members.contains_map}
+use Rattle.vz_rules.proofs.{Kept_inside.damage_covered, Patches.in_display}
+use Rattle.vz_surfaces.specs.{Stored.Stored, Stored.stored_of, Stored.bare_sub, Reading.seen_frames, Keeping.KeepsStored, Keeping.KeepsFrames}
+use Rattle.vz_surfaces.proofs.{Kept_of_world.keeps_of_world, Telling.seen_all}
 use Rattle.vz_walk.specs.Scenes.{scene_in, walked_in}
 use Rattle.vz_damage.specs.Accepted.{scene_from}
-use Rattle.vz_surface_manager.specs.Allowed.{drawn_reply}
-use Rattle.vz_surface_manager.specs.Live.{Live, AreWhole}
-use Rattle.vz_surface_manager.specs.Drawn_frame.{IsDrawing, IsShowing}
-use Rattle.vz_flat.specs.declared.op.Op.{Op}
-use Rattle.vz_flat.specs.Ops.{value}
+use Rattle.vz_surface_manager.specs.{Allowed.drawn_reply, Live.Live, Live.AreWhole, Drawn_frame.IsDrawing, Drawn_frame.IsShowing}
+use Rattle.vz_flat.specs.{declared.op.Op.Op, Ops.value}
 use Rattle.vz_occlude.specs.Pictures.{Flattened}
 use Rattle.vz_manager.specs.Picturing.{LookLike, IsAnswered, IsPainted}
 

@@ -6,30 +6,21 @@ use Rattle.vz_pixels.specs.Block.{Block}
 use Rattle.vz_ids.specs.declared.FrameSinkId.{FrameSinkId}
 use Rattle.vz_frame.specs.declared.message.Message.{Message}
 use Rattle.vz_frame.specs.declared.message.Message.TheVariants.{Upload, DidNotProduce, Reclaim, Hierarchy, Await}
-use Rattle.vz_rules.specs.declared.entry.Event.{Event}
+use Rattle.vz_rules.specs.{declared.entry.Event.Event, Plan.Plan, World.World, World.Client, World.client_at, Kept.Keeps, Kept.no_effects}
 use Rattle.vz_rules.specs.declared.entry.Event.TheVariants as event
 use Rattle.vz_rules.specs.declared.entry.Reply.TheVariants as reply
 use Rattle.vz_rules.specs.declared.entry.Refusal.TheVariants as refusal
-use Rattle.vz_rules.specs.Plan.{Plan}
-use Rattle.vz_rules.specs.World.{World, Client, client_at}
 use Rattle.vz_rules.specs.Messages.{Answer, says, refused, taking, in_use, put_resource, answer_tick}
 use Rattle.vz_rules.specs.Messages.{reclaim, upload_answer, hierarchy_answer}
 use Rattle.vz_rules.specs.Messages.{await_answer, message_answer, known_client_answer, client_answer}
 use Rattle.vz_rules.specs.Step.{Outcome, answer_to, presented_by, outcome_of, step_in}
-use Rattle.vz_rules.specs.Kept.{Keeps, no_effects}
-use Rattle.vz_rules.proofs.Members.{find_at}
-use Rattle.vz_rules.proofs.Kept_quiet.{nothing_follows}
-use Rattle.vz_rules.proofs.Kept_between.{keeps_step}
-use Rattle.vz_rules.proofs.Kept_answers.{keeps_over}
+use Rattle.vz_rules.proofs.{Members.find_at, Kept_quiet.nothing_follows, Kept_between.keeps_step, Kept_answers.keeps_over, Kept_sending.messages_step}
 use Rattle.vz_rules.proofs.Kept_planned.{plan_step}
-use Rattle.vz_rules.proofs.Kept_sending.{messages_step}
 use Rattle.vz_machine.specs.declared.machine.Step.{Step}
-use Rattle.vz_returns.specs.Lent.{NoneReleased, AreLent, IsLender, resources_out}
-use Rattle.vz_returns.specs.Quiet.{KeepsReferences}
+use Rattle.vz_returns.specs.{Lent.NoneReleased, Lent.AreLent, Lent.IsLender, Lent.resources_out, Quiet.KeepsReferences}
 use Rattle.vz_returns.proofs.Lent_kept.{keeps_when}
-use Rattle.vz_surface_manager.specs.Live.{Live, AreLive}
+use Rattle.vz_surface_manager.specs.{Live.Live, Live.AreLive, Settles.AreSettling}
 use Rattle.vz_surface_manager.proofs.{Quiet_changes.IsQuiet, Quiet.live_like, Waits_kept.waits_like}
-use Rattle.vz_surface_manager.specs.Settles.{AreSettling}
 use Rattle.vz_support.specs.Supporting.{Supported, IsSupport, Sends}
 use Rattle.vz_manager.specs.Serving.{Served, Serves, CanLand, IsStepOf, IsSending, HasNone, IsClosed, IsRefused}
 

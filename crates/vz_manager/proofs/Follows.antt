@@ -4,25 +4,15 @@ use Rattle.std.proofs.Common.{map, length, append-nil, refl, ap, sym, ◌∙◌,
 use Rattle.std.proofs.lemmas.Bool.{eqb-true}
 use Rattle.std.specs.List.{flat_map}
 use Rattle.vz_base.specs.declared.limits.TheConstants.{MOST_FILES, TEMPORARY_TICKS}
-use Rattle.vz_ids.specs.declared.SurfaceId.{SurfaceId}
-use Rattle.vz_ids.specs.declared.Sub.{Sub}
-use Rattle.vz_rules.specs.declared.entry.Effects.{Effects}
-use Rattle.vz_rules.specs.declared.entry.Lost.{Lost}
-use Rattle.vz_rules.specs.declared.entry.Reply.{Reply}
-use Rattle.vz_rules.specs.World.{World, Submission, sub_of}
+use Rattle.vz_ids.specs.{declared.SurfaceId.SurfaceId, declared.Sub.Sub}
+use Rattle.vz_rules.specs.{declared.entry.Effects.Effects, declared.entry.Lost.Lost, declared.entry.Reply.Reply, Messages.says, Step.outcome_of}
+use Rattle.vz_rules.specs.{World.World, World.Submission, World.sub_of, Returns.give_back, Returns.returned_in, Returns.feed, Returns.fed_in}
 use Rattle.vz_rules.specs.Settle.{ready, round, rounds, settle, activated_in}
 use Rattle.vz_rules.specs.Reach.{naming, lost_in, lost_of, clearing, collect, destroyed_in}
-use Rattle.vz_rules.specs.Returns.{give_back, returned_in, feed, fed_in}
-use Rattle.vz_rules.specs.Messages.{says}
-use Rattle.vz_rules.specs.Step.{outcome_of}
-use Rattle.vz_rules.proofs.Kept_quiet.{settle_stays, destroyed_none}
-use Rattle.vz_rules.proofs.{Kept_collected.clearing_stays, Kept_follows.always_naming}
-use Rattle.vz_surface_manager.specs.declared.surface_manager.SurfaceManager.{SurfaceManager}
-use Rattle.vz_surface_manager.specs.Settles.{AreSettling}
-use Rattle.vz_surface_manager.specs.Collects.{IsToCollect}
+use Rattle.vz_rules.proofs.{Kept_quiet.settle_stays, Kept_quiet.destroyed_none, Kept_collected.clearing_stays, Kept_follows.always_naming}
+use Rattle.vz_surface_manager.specs.{declared.surface_manager.SurfaceManager.SurfaceManager, Settles.AreSettling, Collects.IsToCollect}
 use Rattle.vz_surface_manager.proofs.{Rounded.none_long, Named_kept.named_again, Quiet.live_named, Waits_kept.stay_named}
-use Rattle.vz_manager.specs.declared.outcome.Following.{Following}
-use Rattle.vz_manager.specs.declared.outcome.New.{New}
+use Rattle.vz_manager.specs.{declared.outcome.Following.Following, declared.outcome.New.New}
 use Rattle.vz_manager.specs.Followed.{IsFollowed, IsKeeping, IsAsked, Tells, new_id}
 
 rounds_clients : (n : ℕ) (w : World) → (rounds n w).clients ≡ w.clients

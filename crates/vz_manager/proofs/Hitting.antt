@@ -1,28 +1,19 @@
 -- What is hit on a display: the root that a drawing would walk from, and the regions of what it would show.
 use Rattle.std.proofs.Common.{◌≡◌, ◌↔◌, Bool, true, false, Option, Some, None, List, [], refl, ap, sym, ◌∙◌, subst}
 use Rattle.std.specs.Option.{option_and_then}
-use Rattle.vz_geom.specs.declared.Point.{Point}
-use Rattle.vz_geom.specs.declared.Size.{Size}
-use Rattle.vz_geom.specs.Rectangle.{has, sized}
+use Rattle.vz_geom.specs.{declared.Point.Point, declared.Size.Size, Rectangle.has, Rectangle.sized}
 use Rattle.vz_ids.specs.declared.SurfaceId.{SurfaceId}
-use Rattle.vz_rules.specs.Plan.{Plan}
+use Rattle.vz_rules.specs.{Plan.Plan, Hit.Target, Hit.hit_at}
 use Rattle.vz_rules.specs.World.{World, Scene, FrameData, active_frames, frame_on}
-use Rattle.vz_rules.specs.Scene.{scene_of}
-use Rattle.vz_rules.specs.Walk.{Visit, walk_of, too_much}
-use Rattle.vz_rules.specs.Whole.{drawable_in, too_much_in, walk_in, hit_in}
-use Rattle.vz_rules.specs.Hit.{Target, hit_at}
-use Rattle.vz_surfaces.specs.Stored.{Stored}
-use Rattle.vz_surfaces.specs.Reading.{active_on}
+use Rattle.vz_rules.specs.{Scene.scene_of, Walk.Visit, Walk.walk_of, Walk.too_much, Whole.drawable_in, Whole.too_much_in, Whole.walk_in, Whole.hit_in}
+use Rattle.vz_surfaces.specs.{Stored.Stored, Reading.active_on}
 use Rattle.vz_surfaces.proofs.Telling.{tells_active}
 use Rattle.vz_walk.specs.Scenes.{scene_in, walked_in}
 use Rattle.vz_damage.specs.Accepted.{scene_from}
 use Rattle.vz_surface_manager.proofs.Viewed.{rootless, unseen_root, seen_root}
-use Rattle.vz_hit.specs.declared.region.Region.{Region}
-use Rattle.vz_hit.specs.Regions.{found}
-use Rattle.vz_manager.specs.Serving.{Served, Serves}
-use Rattle.vz_manager.specs.Hitting.{found_in}
-use Rattle.vz_manager.proofs.Showing.{draws_there}
-use Rattle.vz_manager.proofs.Depicting.{scene_is, walked_is}
+use Rattle.vz_hit.specs.{declared.region.Region.Region, Regions.found}
+use Rattle.vz_manager.specs.{Serving.Served, Serving.Serves, Hitting.found_in}
+use Rattle.vz_manager.proofs.{Showing.draws_there, Depicting.scene_is, Depicting.walked_is}
 
 -- What a drawing would show
 

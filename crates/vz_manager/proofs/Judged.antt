@@ -1,39 +1,23 @@
 -- What is asked of a submission is what the definitions ask, and what it is answered.
 use Rattle.std.proofs.Common.{◌≡◌, ℕ, ◌+◌, ◌<◌, ◌≤◌, ℤ, int_lt, int_eq, Bool, true, false, not, ◌&&◌, ◌==◌, Option, Some, None, unwrap_or, List, [], ◌∷◌, ◌++◌}
 use Rattle.std.proofs.Common.{filter, take, length, get_or, refl, ap, sym, ◌∙◌, subst, arith, cond, sum_by}
-use Rattle.std.specs.Prelude.{nat_le}
-use Rattle.std.specs.Option.{option_map}
-use Rattle.std.specs.List.{list_any, list_all}
+use Rattle.std.specs.{Prelude.nat_le, Option.option_map, List.list_any, List.list_all}
 use Rattle.std.proofs.Math.Bool.{and_assoc}
-use Rattle.std.proofs.lemmas.Bool.{leb-true}
-use Rattle.std.proofs.lemmas.Bool.Decides.{Decides-int_eq, same_from_decides}
-use Rattle.std.proofs.lemmas.Int.{ints}
-use Rattle.std.proofs.lemmas.List.{append-nil, append_assoc, take_all}
-use Rattle.std.proofs.lemmas.List.Elements.{filter-append}
-use Rattle.std.proofs.lemmas.Grind.{take_at_read}
+use Rattle.std.proofs.{lemmas.Bool.leb-true, lemmas.List.append-nil, lemmas.List.append_assoc, lemmas.List.take_all, lemmas.Grind.take_at_read}
+use Rattle.std.proofs.{lemmas.Bool.Decides.Decides-int_eq, lemmas.Bool.Decides.same_from_decides, lemmas.Int.ints, lemmas.List.Elements.filter-append}
 use Rattle.vz_base.specs.declared.limits.TheConstants.{GREATEST_DEADLINE, MOST_FILES}
 use Rattle.vz_geom.specs.declared.Size.{Size}
-use Rattle.vz_ids.specs.declared.LocalSurfaceId.{LocalSurfaceId}
-use Rattle.vz_ids.specs.declared.SurfaceId.{SurfaceId}
-use Rattle.vz_ids.specs.Ids.{same_local}
-use Rattle.vz_frame.specs.declared.frame.CompositorFrame.{CompositorFrame}
-use Rattle.vz_frame.specs.declared.message.Message.{Message}
-use Rattle.vz_frame.specs.declared.message.Message.TheVariants.{Submit}
-use Rattle.vz_frame.specs.declared.rules.Rule.{Rule}
+use Rattle.vz_ids.specs.{declared.LocalSurfaceId.LocalSurfaceId, declared.SurfaceId.SurfaceId, Ids.same_local}
+use Rattle.vz_frame.specs.{declared.frame.CompositorFrame.CompositorFrame, Frame.first_broken, Frame.frame_size, Frame.same_size}
+use Rattle.vz_frame.specs.{declared.message.Message.Message, declared.message.Message.TheVariants.Submit, declared.rules.Rule.Rule}
 use Rattle.vz_frame.specs.Fits.{is_number, fits_optional, fits_surface, fits_range, fits_listing, fits_pass, fits_local, fits_frame}
-use Rattle.vz_frame.specs.Frame.{first_broken, frame_size, same_size}
 use Rattle.vz_rules.specs.declared.entry.Event.TheVariants as event
-use Rattle.vz_rules.specs.declared.entry.Refusal.{Refusal}
+use Rattle.vz_rules.specs.{declared.entry.Refusal.Refusal, Plan.Plan, Plan.IsPlan, Step.answer_to, Kept.KeepsAlways, Kept.AreRising}
 use Rattle.vz_rules.specs.declared.entry.Refusal.TheVariants as refusal
-use Rattle.vz_rules.specs.Plan.{Plan, IsPlan}
 use Rattle.vz_rules.specs.World.{World, Client, Surface, client_at, next_message, last_created}
 use Rattle.vz_rules.specs.Messages.{first_some, when, is_unknown, violates, has_other_size, submit_refusal, unless_refused, refused}
 use Rattle.vz_rules.specs.Messages.{new_submission, accepted, submit_answer, message_answer}
-use Rattle.vz_rules.specs.Step.{answer_to}
-use Rattle.vz_rules.specs.Kept.{KeepsAlways, AreRising}
-use Rattle.vz_rules.proofs.Cases.{number_at}
-use Rattle.vz_rules.proofs.Kept_files.{next_fits}
-use Rattle.vz_rules.proofs.Kept_sent.{submit_fits}
+use Rattle.vz_rules.proofs.{Cases.number_at, Kept_files.next_fits, Kept_sent.submit_fits}
 use Rattle.vz_surface_manager.specs.Last_surface.{NameAndSize, name_and_size, violates_named, has_other_size_named}
 use Rattle.vz_surface_manager.proofs.Asked.{violates_asked, size_asked}
 use Rattle.vz_manager.specs.Serving.{Served, Serves, IsSending}

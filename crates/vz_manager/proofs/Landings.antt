@@ -4,33 +4,19 @@ use Rattle.std.proofs.Common.{refl, ap, sym, ◌∙◌, subst, arith, Contains}
 use Rattle.std.specs.Option.{option_and_then}
 use Rattle.vz_ids.specs.declared.Sub.{Sub}
 use Rattle.vz_frame.specs.Roomy.{Roomy}
-use Rattle.vz_rules.specs.declared.entry.Effects.{Effects}
+use Rattle.vz_rules.specs.{declared.entry.Effects.Effects, World.World, World.Submission, Ends.landed, Ends.presenting, Kept.Keeps, Kept.no_effects}
 use Rattle.vz_rules.specs.declared.entry.Event.TheVariants as event
-use Rattle.vz_rules.specs.declared.entry.Fed.{Fed}
+use Rattle.vz_rules.specs.{declared.entry.Fed.Fed, Step.Outcome, Step.step_in}
 use Rattle.vz_rules.specs.declared.entry.Reply.TheVariants as reply
-use Rattle.vz_rules.specs.declared.entry.Returned.{Returned}
-use Rattle.vz_rules.specs.Plan.{Plan}
-use Rattle.vz_rules.specs.World.{World, Submission}
-use Rattle.vz_rules.specs.Returns.{give_back, returned_in, feedback_of, fed_in}
-use Rattle.vz_rules.specs.Ends.{landed, presenting}
-use Rattle.vz_rules.specs.Step.{Outcome, step_in}
-use Rattle.vz_rules.specs.Kept.{Keeps, no_effects}
-use Rattle.vz_rules.proofs.Members.{at_contains, contains_here}
-use Rattle.vz_rules.proofs.Kept_between.{keeps_step}
-use Rattle.vz_rules.proofs.Kept_done.{done_presents, done_idles}
-use Rattle.vz_rules.proofs.Kept_planned.{plan_step}
-use Rattle.vz_rules.proofs.Kept_sending.{messages_step}
+use Rattle.vz_rules.specs.{declared.entry.Returned.Returned, Plan.Plan, Returns.give_back, Returns.returned_in, Returns.feedback_of, Returns.fed_in}
+use Rattle.vz_rules.proofs.{Members.at_contains, Members.contains_here, Kept_done.done_presents, Kept_done.done_idles, Kept_sending.messages_step}
+use Rattle.vz_rules.proofs.{Kept_between.keeps_step, Kept_planned.plan_step}
 use Rattle.vz_machine.specs.declared.machine.Step.{Step}
-use Rattle.vz_returns.specs.Lent.{NoneReleased}
-use Rattle.vz_returns.specs.declared.due.Due.{Due}
-use Rattle.vz_returns.specs.Owed.{Owed, AreOwed, gets_at}
+use Rattle.vz_returns.specs.{Lent.NoneReleased, declared.due.Due.Due, Owed.Owed, Owed.AreOwed, Owed.gets_at}
 use Rattle.vz_returns.proofs.Owed_kept.{none_gets}
-use Rattle.vz_surface_manager.specs.Flown.{Flown}
+use Rattle.vz_surface_manager.specs.{Flown.Flown, Waits.AreWaiting, Live.Live, Live.AreLive, Frame_end.IsFlying, Frame_end.flying_count}
 use Rattle.vz_surface_manager.proofs.Flights_kept.{flown_some}
-use Rattle.vz_surface_manager.specs.Waits.{AreWaiting}
 use Rattle.vz_surface_manager.proofs.{Waits_kept.waits_like, Waits_kept.stay_landed, Waits_kept.stay_fed, Quiet_changes.quiet_given}
-use Rattle.vz_surface_manager.specs.Live.{Live, AreLive}
-use Rattle.vz_surface_manager.specs.Frame_end.{IsFlying, flying_count}
 use Rattle.vz_support.specs.Supporting.{IsSupport}
 use Rattle.vz_support.proofs.Support_kept.{stays_like, stays_given, stays_fed}
 use Rattle.vz_manager.specs.Serving.{Served, Serves, IsStepOf}

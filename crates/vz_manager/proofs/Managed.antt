@@ -1,14 +1,10 @@
 -- The machine over its parts: a step goes on from the world that the events before it led to.
 use Rattle.std.proofs.Common.{◌≡◌, ℕ, ◌≤◌, List, [], ◌∷◌, ◌++◌, Some, length, refl, ap, sym, ◌∙◌, subst}
-use Rattle.vz_rules.specs.declared.entry.Event.{Event}
-use Rattle.vz_rules.specs.Plan.{Plan}
+use Rattle.vz_rules.specs.{declared.entry.Event.Event, Plan.Plan, Step.step_in}
 use Rattle.vz_rules.specs.World.{World, Machine, Client, client_at, opening}
-use Rattle.vz_rules.specs.Step.{step_in}
-use Rattle.vz_machine.specs.Stepping.{HasClient, Goes, Answers}
-use Rattle.vz_machine.specs.declared.machine.Step.{Step}
+use Rattle.vz_machine.specs.{Stepping.HasClient, Stepping.Goes, Stepping.Answers, declared.machine.Step.Step}
 use Rattle.vz_support.proofs.Asking.{known_there, numbered_there}
-use Rattle.vz_manager.specs.Serving.{Served, Serves, IsStepOf}
-use Rattle.vz_manager.specs.Managing.{after, led_to}
+use Rattle.vz_manager.specs.{Serving.Served, Serving.Serves, Serving.IsStepOf, Managing.after, Managing.led_to}
 
 -- one event more
 pub after_more : (p : Plan) (w : World) (es : List Event) (e : Event) → after p w (es ++ e ∷ []) ≡ (step_in p (after p w es) e).world

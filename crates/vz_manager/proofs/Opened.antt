@@ -4,17 +4,11 @@ use Rattle.std.specs.Prelude.{is_some}
 use Rattle.vz_geom.specs.declared.Size.{Size}
 use Rattle.vz_ids.specs.declared.Sub.{Sub}
 use Rattle.vz_frame.specs.declared.message.ClientFile.{ClientFile}
-use Rattle.vz_rules.specs.Plan.{Plan, IsPlan}
-use Rattle.vz_rules.specs.World.{opening}
-use Rattle.vz_rules.proofs.Kept_first.{keeps_first}
-use Rattle.vz_rules.proofs.Kept_planned.{plan_first}
-use Rattle.vz_rules.proofs.Kept_sending.{messages_first}
+use Rattle.vz_rules.specs.{Plan.Plan, Plan.IsPlan, World.opening}
+use Rattle.vz_rules.proofs.{Kept_first.keeps_first, Kept_planned.plan_first, Kept_sending.messages_first}
 use Rattle.vz_returns.specs.Lent.{NoneReleased}
-use Rattle.vz_surface_manager.specs.Flown.{Flown, AreFlown, subs_of}
-use Rattle.vz_surface_manager.specs.Waits.{AreWaiting}
-use Rattle.vz_surface_manager.specs.Live.{AreLive}
-use Rattle.vz_surface_manager.specs.declared.surface_manager.SurfaceManager.{SurfaceManager}
-use Rattle.vz_surface_manager.specs.Settles.{AreSettling}
+use Rattle.vz_surface_manager.specs.{Flown.Flown, Flown.AreFlown, Flown.subs_of, Live.AreLive, declared.surface_manager.SurfaceManager.SurfaceManager}
+use Rattle.vz_surface_manager.specs.{Waits.AreWaiting, Settles.AreSettling}
 use Rattle.vz_support.specs.Supporting.{Supported, IsSupport}
 use Rattle.vz_manager.specs.Serving.{Served, Serves, CanLand}
 

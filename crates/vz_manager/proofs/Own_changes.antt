@@ -3,45 +3,27 @@ use Rattle.std.proofs.Common.{◌≡◌, ℕ, ◌+◌, ◌≤◌, Bool, true, fa
 use Rattle.std.proofs.Common.{List, [], ◌++◌, length, map, refl, ap, sym, ◌∙◌, arith, cond, Contains}
 use Rattle.std.proofs.lemmas.List.{length-map}
 use Rattle.vz_base.specs.declared.limits.TheConstants.{MOST_FILES}
-use Rattle.vz_ids.specs.declared.FrameSinkId.{FrameSinkId}
-use Rattle.vz_ids.specs.declared.LocalSurfaceId.{LocalSurfaceId}
-use Rattle.vz_ids.specs.declared.SurfaceId.{SurfaceId}
+use Rattle.vz_ids.specs.{declared.FrameSinkId.FrameSinkId, declared.LocalSurfaceId.LocalSurfaceId, declared.SurfaceId.SurfaceId, declared.Sub.Sub}
 use Rattle.vz_frame.specs.Roomy.{Roomy}
-use Rattle.vz_ids.specs.declared.Sub.{Sub}
-use Rattle.vz_frame.specs.declared.message.Message.{Message}
-use Rattle.vz_frame.specs.declared.message.Message.TheVariants.{SetRoot, Close}
+use Rattle.vz_frame.specs.{declared.message.Message.Message, declared.message.Message.TheVariants.SetRoot, declared.message.Message.TheVariants.Close}
 use Rattle.vz_rules.specs.declared.entry.Event.TheVariants as event
 use Rattle.vz_rules.specs.declared.entry.Reply.TheVariants as reply
 use Rattle.vz_rules.specs.Plan.{Plan}
-use Rattle.vz_rules.specs.World.{World, Client, client_at, sub_of}
-use Rattle.vz_rules.specs.Settle.{ready}
-use Rattle.vz_rules.specs.Reach.{naming, lost_in}
-use Rattle.vz_rules.specs.Messages.{took, root_answer, message_answer}
-use Rattle.vz_rules.specs.Step.{answer_to, begin_answer, next_tick, deliver}
-use Rattle.vz_rules.specs.Kept.{KeepsAlways}
-use Rattle.vz_rules.proofs.Kept_messages.{always_root, always_closed}
-use Rattle.vz_rules.proofs.Kept_steps.{always_answer}
-use Rattle.vz_rules.proofs.Cases.{number_at}
-use Rattle.vz_returns.specs.Lent.{resources_out}
-use Rattle.vz_returns.specs.Owed.{OwedAndRoom}
-use Rattle.vz_returns.specs.Notes.{owed_count}
-use Rattle.vz_surfaces.specs.Memory.{HasNumber}
-use Rattle.vz_surfaces.specs.Reading.{existing_count}
-use Rattle.vz_surface_manager.specs.Waits.{Waits, AreWaiting}
+use Rattle.vz_rules.specs.{World.World, World.Client, World.client_at, World.sub_of, Step.answer_to, Step.begin_answer, Step.next_tick, Step.deliver}
+use Rattle.vz_rules.specs.{Settle.ready, Reach.naming, Reach.lost_in, Messages.took, Messages.root_answer, Messages.message_answer, Kept.KeepsAlways}
+use Rattle.vz_rules.proofs.{Kept_messages.always_root, Kept_messages.always_closed, Kept_steps.always_answer, Cases.number_at}
+use Rattle.vz_returns.specs.{Lent.resources_out, Owed.OwedAndRoom, Notes.owed_count}
+use Rattle.vz_surfaces.specs.{Memory.HasNumber, Reading.existing_count}
+use Rattle.vz_surface_manager.specs.{Waits.Waits, Waits.AreWaiting, Live.Live, Live.AreLive}
 use Rattle.vz_surface_manager.proofs.{Waits_on.as_many, Waits_kept.waits_like, Quiet.live_like, Quiet_changes.IsQuiet, Quiet_changes.quiet_rooted}
 use Rattle.vz_returns.proofs.Lent_kept.{lent_root}
-use Rattle.vz_surface_manager.specs.Live.{Live, AreLive}
-use Rattle.vz_surface_manager.specs.declared.surface_manager.SurfaceManager.{SurfaceManager}
-use Rattle.vz_surface_manager.specs.Settles.{AreSettling, IsToSettle}
+use Rattle.vz_surface_manager.specs.{declared.surface_manager.SurfaceManager.SurfaceManager, Settles.AreSettling, Settles.IsToSettle}
 use Rattle.vz_support.specs.Supporting.{Supported, IsSupport, IsNext, Sends}
 use Rattle.vz_support.proofs.Asking.{numbered_there, next_same}
-use Rattle.vz_manager.specs.Serving.{Served, Serves, IsSending}
-use Rattle.vz_manager.specs.declared.outcome.Following.{Following}
+use Rattle.vz_manager.specs.{Serving.Served, Serving.Serves, Serving.IsSending, declared.outcome.Following.Following}
 use Rattle.vz_manager.specs.Followed.{IsFollowed, IsBetween, HasRoomAfter, CanFollow, CanKeep}
-use Rattle.vz_manager.proofs.Resting.{appended}
-use Rattle.vz_manager.proofs.Following.{sent_answer, client_here}
-use Rattle.vz_manager.proofs.Unlost.{always_asked}
-use Rattle.vz_manager.proofs.Rooming.{can_follow, as_many_rise, none_rises}
+use Rattle.vz_manager.proofs.{Resting.appended, Unlost.always_asked}
+use Rattle.vz_manager.proofs.{Following.sent_answer, Following.client_here, Rooming.can_follow, Rooming.as_many_rise, Rooming.none_rises}
 
 -- What such a change leaves
 

@@ -2,14 +2,11 @@
 use Rattle.std.proofs.Common.{◌≡◌, ℕ, ◌+◌, ◌≤◌, Bool, true, false, Option, Some, None, ap, sym, ◌∙◌, arith, cond}
 use Rattle.std.specs.Option.{option_map}
 use Rattle.vz_base.specs.declared.limits.TheConstants.{LAST_TICK, TEMPORARY_TICKS}
-use Rattle.vz_ids.specs.declared.LocalSurfaceId.{LocalSurfaceId}
-use Rattle.vz_ids.specs.declared.SurfaceId.{SurfaceId}
-use Rattle.vz_rules.specs.World.{World, Client, last_created}
-use Rattle.vz_rules.specs.Messages.{is_last, id_of}
+use Rattle.vz_ids.specs.{declared.LocalSurfaceId.LocalSurfaceId, declared.SurfaceId.SurfaceId}
+use Rattle.vz_rules.specs.{World.World, World.Client, World.last_created, Messages.is_last, Messages.id_of}
 use Rattle.vz_surface_manager.specs.Last_surface.{NameAndSize, name_and_size, is_last_named}
 use Rattle.vz_surface_manager.proofs.Asked.{is_last_asked}
-use Rattle.vz_manager.specs.declared.outcome.New.{New}
-use Rattle.vz_manager.specs.Submitted.{created_by}
+use Rattle.vz_manager.specs.{declared.outcome.New.New, Submitted.created_by}
 
 module _ (w : World) (c : ℕ) (x : Client) (local : LocalSurfaceId) (id : SurfaceId) (last : Option NameAndSize)
     (number : x.number ≡ c) (named : id ≡ id_of x local) (is : last ≡ option_map {U = NameAndSize} name_and_size (last_created w c)) where

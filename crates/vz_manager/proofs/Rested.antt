@@ -4,24 +4,16 @@ use Rattle.std.specs.Prelude.{if◌then◌else◌}
 use Rattle.std.proofs.lemmas.Bool.{eqb-true, and_parts}
 use Rattle.vz_rules.specs.declared.entry.Event.TheVariants as event
 use Rattle.vz_rules.specs.Plan.{Plan}
-use Rattle.vz_rules.specs.World.{World, Client, Submission, sub_of}
-use Rattle.vz_rules.specs.Settle.{ready}
-use Rattle.vz_rules.specs.Reach.{lost_in}
-use Rattle.vz_rules.specs.Returns.{is_held}
+use Rattle.vz_rules.specs.{World.World, World.Client, World.Submission, World.sub_of, Settle.ready, Reach.lost_in, Returns.is_held, Kept.Keeps}
 use Rattle.vz_rules.specs.Step.{Outcome, begin_answer, deliver, is_attached, next_tick, outcome_of, step_in}
-use Rattle.vz_rules.specs.Kept.{Keeps}
 use Rattle.vz_rules.proofs.Members.{contains_map}
 use Rattle.vz_returns.specs.Lent.{NoneReleased, resources_out}
-use Rattle.vz_surface_manager.specs.declared.surface_manager.SurfaceManager.{SurfaceManager}
-use Rattle.vz_surface_manager.specs.Settles.{AreSettling}
+use Rattle.vz_surface_manager.specs.{declared.surface_manager.SurfaceManager.SurfaceManager, Settles.AreSettling}
 use Rattle.vz_surface_manager.proofs.{Rounded.none_long, Waits_on.as_many}
 use Rattle.vz_support.specs.Supporting.{Supported, IsSupport}
 use Rattle.vz_manager.specs.Serving.{Served, Serves}
-use Rattle.vz_manager.proofs.Following.{quiet_step}
-use Rattle.vz_manager.proofs.Stepped.{followed_world, serves_followed}
-use Rattle.vz_manager.proofs.Rooming.{as_many_rise}
-use Rattle.vz_manager.proofs.Own_changes.{between, begin_sent, begin_leaves}
-use Rattle.vz_manager.proofs.Unlost.{begun_alike, named_alike, none_lost}
+use Rattle.vz_manager.proofs.{Following.quiet_step, Rooming.as_many_rise, Unlost.begun_alike, Unlost.named_alike, Unlost.none_lost}
+use Rattle.vz_manager.proofs.{Stepped.followed_world, Stepped.serves_followed, Own_changes.between, Own_changes.begin_sent, Own_changes.begin_leaves}
 
 none_there : {A : Type 0} (l : List A) → (length l == 0) ≡ true → l ≡ []
 none_there l e = none_long l (omega (arith, eqb-true (length l) 0 e))
@@ -38,7 +30,7 @@ pub record IsBegun (p : Plan) (w : World) (v : Served) (support : Supported) (se
   pub serves : Serves p w v
   pub none_waits : v.settling.waiting.due ≡ []
   pub none_lasts : v.settling.live.kept.temporary ≡ []
-  pub support : IsSupport p (begin_answer p w).world support
+  pub kept : IsSupport p (begin_answer p w).world support
   pub stands : AreSettling (begin_answer p w).world None settling
   pub few : length settling.live.kept.temporary ≤ length v.settling.live.kept.temporary
 
@@ -90,5 +82,5 @@ module _ (p : Plan) (w : World) (v : Served) (support : Supported) (settling : S
       let same : (outcome_of [] a).world ≡ a.world =
       sym (followed_world p w event.Begin a (begin_sent p w) refl)
       ∙ ap (λ (o : Outcome). o.world) (quiet_step p w event.Begin a (begin_sent p w) refl begun_keeps) in
-      serves_followed p w event.Begin a v support settling h.serves (begin_sent p w) refl (begin_leaves p w).in_flight h.support
+      serves_followed p w event.Begin a v support settling h.serves (begin_sent p w) refl (begin_leaves p w).in_flight h.kept
       (subst (λ x. AreSettling x None settling) (sym same) h.stands) released out

@@ -1,10 +1,7 @@
 -- What is still out.
 use Rattle.std.proofs.Common.{◌≡◌, List, [], ◌++◌, ap, ◌∙◌}
 use Rattle.vz_ids.specs.declared.Sub.{Sub}
-use Rattle.vz_rules.specs.declared.entry.Returned.{Returned}
-use Rattle.vz_rules.specs.declared.entry.Rest.{Rest}
-use Rattle.vz_rules.specs.World.{World}
-use Rattle.vz_rules.specs.Log.{rest_in}
+use Rattle.vz_rules.specs.{declared.entry.Returned.Returned, declared.entry.Rest.Rest, World.World, Log.rest_in}
 
 -- what is appended to nothing
 pub appended : {A : Type 0} (all out old more : List A) → all ≡ out → out ≡ old ++ more → old ≡ [] → all ≡ more

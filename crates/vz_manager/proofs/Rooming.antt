@@ -2,17 +2,11 @@
 use Rattle.std.proofs.Common.{◌≡◌, ℕ, ◌+◌, ◌≤◌, Option, None, List, [], length, map, filter, ap, sym, arith}
 use Rattle.vz_ids.specs.declared.Sub.{Sub}
 use Rattle.vz_frame.specs.Roomy.{Roomy}
-use Rattle.vz_rules.specs.World.{World, is_waiting, sub_of}
-use Rattle.vz_rules.specs.Settle.{ready}
-use Rattle.vz_returns.specs.Notes.{owed_count}
-use Rattle.vz_returns.specs.Owed.{Owed}
-use Rattle.vz_surface_manager.specs.Waits.{Waits}
-use Rattle.vz_surface_manager.specs.declared.surface_manager.SurfaceManager.{SurfaceManager}
-use Rattle.vz_surface_manager.specs.Settles.{AreReady, IsToSettle}
-use Rattle.vz_surface_manager.proofs.Rounded.{waiting, none_long}
-use Rattle.vz_surface_manager.proofs.Many_rounds.{all_wait}
-use Rattle.vz_manager.specs.declared.outcome.Following.{Following}
-use Rattle.vz_manager.specs.declared.outcome.New.{New}
+use Rattle.vz_rules.specs.{World.World, World.is_waiting, World.sub_of, Settle.ready}
+use Rattle.vz_returns.specs.{Notes.owed_count, Owed.Owed}
+use Rattle.vz_surface_manager.specs.{Waits.Waits, declared.surface_manager.SurfaceManager.SurfaceManager, Settles.AreReady, Settles.IsToSettle}
+use Rattle.vz_surface_manager.proofs.{Rounded.waiting, Rounded.none_long, Many_rounds.all_wait}
+use Rattle.vz_manager.specs.{declared.outcome.Following.Following, declared.outcome.New.New}
 use Rattle.vz_manager.specs.Followed.{CanKeep, CanFollow, IsBetween, HasRoomAfter, IsWithin}
 
 -- The room for all that may follow

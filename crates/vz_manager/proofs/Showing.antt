@@ -2,41 +2,25 @@
 use Rattle.std.proofs.Common.{◌≡◌, ◌≤◌, Bool, true, false, Option, Some, None, List, [], is_some, Result, Ok, Err}
 use Rattle.std.proofs.Common.{refl, ap, sym, ◌∙◌, subst}
 use Rattle.std.specs.Prelude.{OnErr}
-use Rattle.vz_geom.specs.declared.Size.{Size}
-use Rattle.vz_geom.specs.Rectangle.{Rectangle}
+use Rattle.vz_geom.specs.{declared.Size.Size, Rectangle.Rectangle}
 use Rattle.vz_ids.specs.declared.SurfaceId.{SurfaceId}
 use Rattle.vz_frame.specs.Roomy.{Roomy}
 use Rattle.vz_rules.specs.declared.entry.Event.TheVariants as event
-use Rattle.vz_rules.specs.declared.entry.Fed.{Fed}
-use Rattle.vz_rules.specs.declared.entry.Reply.{Reply}
+use Rattle.vz_rules.specs.{declared.entry.Fed.Fed, Plan.Plan, World.World, Messages.Answer, Messages.says, Kept.Keeps, Kept.no_effects}
+use Rattle.vz_rules.specs.{declared.entry.Reply.Reply, declared.entry.Returned.Returned, Step.Outcome, Step.answer_to, Step.draw_answer, Step.step_in}
 use Rattle.vz_rules.specs.declared.entry.Reply.TheVariants as reply
-use Rattle.vz_rules.specs.declared.entry.Returned.{Returned}
-use Rattle.vz_rules.specs.Plan.{Plan}
-use Rattle.vz_rules.specs.World.{World}
-use Rattle.vz_rules.specs.Messages.{Answer, says}
-use Rattle.vz_rules.specs.Step.{Outcome, answer_to, draw_answer, step_in}
-use Rattle.vz_rules.specs.Kept.{Keeps, no_effects}
-use Rattle.vz_rules.proofs.Kept_between.{keeps_step}
-use Rattle.vz_rules.proofs.Kept_answers.{keeps_draw}
-use Rattle.vz_rules.proofs.Kept_planned.{plan_step}
-use Rattle.vz_rules.proofs.Kept_sending.{messages_step}
+use Rattle.vz_rules.proofs.{Kept_between.keeps_step, Kept_answers.keeps_draw, Kept_planned.plan_step, Kept_sending.messages_step}
 use Rattle.vz_machine.specs.declared.machine.Step.{Step}
 use Rattle.vz_damage.specs.Measured.{Measurement}
-use Rattle.vz_surface_manager.specs.Allowed.{drawn_reply}
+use Rattle.vz_surface_manager.specs.{Allowed.drawn_reply, Live.Live, Live.AreLive, Frame_end.flying_count, declared.drawn_frame.Look.Look}
 use Rattle.vz_returns.specs.Lent.{Lent, NoneReleased, resources_out}
-use Rattle.vz_surface_manager.specs.Flown.{Flown}
-use Rattle.vz_surface_manager.specs.Live.{Live, AreLive}
-use Rattle.vz_surface_manager.specs.Frame_end.{flying_count}
+use Rattle.vz_surface_manager.specs.{Flown.Flown, Settles.AreSettling}
 use Rattle.vz_surface_manager.specs.Drawn_frame.{IsDrawing, Measures, Flies, Finds, Foretells}
-use Rattle.vz_surface_manager.specs.declared.drawn_frame.Look.{Look}
 use Rattle.vz_surface_manager.specs.declared.drawn_frame.Look.TheVariants as look
-use Rattle.vz_surface_manager.proofs.Drawn.{flightless}
-use Rattle.vz_surface_manager.specs.Settles.{AreSettling}
+use Rattle.vz_surface_manager.proofs.{Drawn.flightless, Waits_kept.stay_drawn}
 use Rattle.vz_support.specs.Supporting.{IsSupport}
 use Rattle.vz_support.proofs.Support_kept.{stays_drawn}
-use Rattle.vz_surface_manager.proofs.Waits_kept.{stay_drawn}
-use Rattle.vz_manager.specs.Serving.{Served, Serves, CanLand, IsStepOf}
-use Rattle.vz_manager.specs.Showing.{IsToMeasure, IsToShow}
+use Rattle.vz_manager.specs.{Serving.Served, Serving.Serves, Serving.CanLand, Serving.IsStepOf, Showing.IsToMeasure, Showing.IsToShow}
 use Rattle.vz_manager.proofs.Following.{quiet_step, step_of}
 
 draw_is : (p : Plan) (w : World) → answer_to p w event.Draw ≡ draw_answer p w

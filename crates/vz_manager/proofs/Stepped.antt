@@ -4,25 +4,15 @@ use Rattle.std.proofs.lemmas.List.{length-map}
 use Rattle.std.specs.Option.{option_map}
 use Rattle.vz_ids.specs.declared.Sub.{Sub}
 use Rattle.vz_frame.specs.Roomy.{Roomy}
-use Rattle.vz_rules.specs.declared.entry.Event.{Event}
-use Rattle.vz_rules.specs.declared.entry.Fed.{Fed}
-use Rattle.vz_rules.specs.declared.entry.Returned.{Returned}
+use Rattle.vz_rules.specs.{declared.entry.Event.Event, declared.entry.Fed.Fed, World.World, Returns.give_back, Returns.feed, Messages.Answer}
+use Rattle.vz_rules.specs.{declared.entry.Returned.Returned, Settle.round, Settle.rounds, Settle.settle, Reach.naming, Reach.clearing, Reach.collect}
 use Rattle.vz_rules.specs.Plan.{Plan}
-use Rattle.vz_rules.specs.World.{World}
-use Rattle.vz_rules.specs.Settle.{round, rounds, settle}
-use Rattle.vz_rules.specs.Reach.{naming, clearing, collect}
-use Rattle.vz_rules.specs.Returns.{give_back, feed}
-use Rattle.vz_rules.specs.Messages.{Answer}
 use Rattle.vz_rules.specs.Step.{Outcome, answer_to, presented_by, outcome_of, step_in}
-use Rattle.vz_rules.proofs.Kept_between.{keeps_step}
-use Rattle.vz_rules.proofs.Kept_planned.{plan_step}
-use Rattle.vz_rules.proofs.Kept_sending.{messages_step}
+use Rattle.vz_rules.proofs.{Kept_between.keeps_step, Kept_planned.plan_step, Kept_sending.messages_step}
 use Rattle.vz_machine.specs.declared.machine.Step.{Step}
 use Rattle.vz_returns.specs.Lent.{NoneReleased, resources_out}
-use Rattle.vz_surface_manager.specs.Flown.{Flown, subs_of, AreFlown}
-use Rattle.vz_surface_manager.specs.Frame_end.{flying_count}
-use Rattle.vz_surface_manager.specs.declared.surface_manager.SurfaceManager.{SurfaceManager}
-use Rattle.vz_surface_manager.specs.Settles.{AreSettling}
+use Rattle.vz_surface_manager.specs.{Flown.Flown, Flown.subs_of, Flown.AreFlown, declared.surface_manager.SurfaceManager.SurfaceManager}
+use Rattle.vz_surface_manager.specs.{Frame_end.flying_count, Settles.AreSettling}
 use Rattle.vz_support.specs.Supporting.{Supported, IsSupport}
 use Rattle.vz_support.proofs.Support_kept.{stays_settled, stays_collected, stays_given, stays_fed}
 use Rattle.vz_manager.specs.Serving.{Served, Serves, CanLand, IsStepOf}

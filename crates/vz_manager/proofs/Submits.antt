@@ -1,32 +1,20 @@
 -- A client that submits a frame: what is known of it, and that its submission may be accepted.
 use Rattle.std.proofs.Common.{◌≡◌, ℕ, ◌≤◌, Some, List, length, sym, ◌∙◌, subst, arith, Contains}
 use Rattle.vz_base.specs.declared.limits.TheConstants.{GREATEST_DEADLINE, LAST_TICK}
-use Rattle.vz_ids.specs.declared.FrameSinkId.{FrameSinkId}
-use Rattle.vz_ids.specs.declared.LocalSurfaceId.{LocalSurfaceId}
+use Rattle.vz_ids.specs.{declared.FrameSinkId.FrameSinkId, declared.LocalSurfaceId.LocalSurfaceId}
 use Rattle.vz_pixels.specs.Block.{Block}
-use Rattle.vz_frame.specs.declared.frame.CompositorFrame.{CompositorFrame}
+use Rattle.vz_frame.specs.{declared.frame.CompositorFrame.CompositorFrame, declared.message.Message.TheVariants.Submit}
 use Rattle.vz_frame.specs.declared.message.Message.{Message}
-use Rattle.vz_frame.specs.declared.message.Message.TheVariants.{Submit}
 use Rattle.vz_rules.specs.declared.entry.Event.TheVariants as event
-use Rattle.vz_rules.specs.Plan.{Plan}
-use Rattle.vz_rules.specs.World.{World, Client, client_at}
-use Rattle.vz_rules.specs.Messages.{Answer, accepted, new_submission, blocks_of}
-use Rattle.vz_rules.specs.Step.{answer_to}
-use Rattle.vz_rules.specs.Kept.{KeepsAlways, IsWhole}
-use Rattle.vz_rules.proofs.Cases.{number_at}
-use Rattle.vz_rules.proofs.Kept_small.{small_client}
-use Rattle.vz_rules.proofs.Kept_sent.{new_whole}
-use Rattle.vz_rules.proofs.Kept_steps.{always_answer}
+use Rattle.vz_rules.specs.{Plan.Plan, Messages.Answer, Messages.accepted, Messages.new_submission, Messages.blocks_of, Kept.KeepsAlways, Kept.IsWhole}
+use Rattle.vz_rules.specs.{World.World, World.Client, World.client_at, Step.answer_to}
+use Rattle.vz_rules.proofs.{Cases.number_at, Kept_small.small_client, Kept_sent.new_whole, Kept_steps.always_answer}
 use Rattle.vz_surfaces.specs.Memory.{HasNumber}
-use Rattle.vz_surface_manager.specs.Acceptance.{IsAccepting}
-use Rattle.vz_surface_manager.specs.declared.surface_manager.SurfaceManager.{SurfaceManager}
+use Rattle.vz_surface_manager.specs.{Acceptance.IsAccepting, declared.surface_manager.SurfaceManager.SurfaceManager}
 use Rattle.vz_support.specs.Supporting.{Supported, IsSupport, IsNext, Sends}
 use Rattle.vz_support.proofs.Asking.{numbered_there, next_same}
-use Rattle.vz_manager.specs.Serving.{Served, Serves}
-use Rattle.vz_manager.specs.Judging.{deadline_of, AreAsked}
-use Rattle.vz_manager.specs.Submitted.{IsAllowed, IsSubmitting}
-use Rattle.vz_manager.proofs.Following.{client_here}
-use Rattle.vz_manager.proofs.Judged.{submitted_fits, submitted_soon, submission_accepted}
+use Rattle.vz_manager.specs.{Serving.Served, Serving.Serves, Judging.deadline_of, Judging.AreAsked, Submitted.IsAllowed, Submitted.IsSubmitting}
+use Rattle.vz_manager.proofs.{Following.client_here, Judged.submitted_fits, Judged.submitted_soon, Judged.submission_accepted}
 
 -- where the parts stand for a state, a submission that is not refused may be accepted
 pub is_submitting : (p : Plan) (w : World) (c : ℕ) (x : Client) (local : LocalSurfaceId) (frame : CompositorFrame) (v : Served)

@@ -1,33 +1,20 @@
 -- A submission that is taken and accepted, and waits or is ready at once.
 use Rattle.std.proofs.Common.{◌≡◌, ℕ, ◌+◌, ◌≤◌, List, length, refl, ap, sym, ◌∙◌, subst, arith}
-use Rattle.vz_ids.specs.declared.FrameSinkId.{FrameSinkId}
-use Rattle.vz_ids.specs.declared.LocalSurfaceId.{LocalSurfaceId}
-use Rattle.vz_ids.specs.declared.SurfaceId.{SurfaceId}
-use Rattle.vz_ids.specs.declared.Sub.{Sub}
+use Rattle.vz_ids.specs.{declared.FrameSinkId.FrameSinkId, declared.LocalSurfaceId.LocalSurfaceId, declared.SurfaceId.SurfaceId, declared.Sub.Sub}
 use Rattle.vz_pixels.specs.Block.{Block}
-use Rattle.vz_frame.specs.declared.frame.CompositorFrame.{CompositorFrame}
-use Rattle.vz_frame.specs.declared.message.Message.TheVariants.{Submit}
+use Rattle.vz_frame.specs.{declared.frame.CompositorFrame.CompositorFrame, declared.message.Message.TheVariants.Submit}
 use Rattle.vz_rules.specs.Plan.{Plan}
-use Rattle.vz_rules.specs.World.{World, Client, sub_of}
-use Rattle.vz_rules.specs.Messages.{accepted, new_submission, id_of}
-use Rattle.vz_rules.specs.Kept.{KeepsAlways}
+use Rattle.vz_rules.specs.{World.World, World.Client, World.sub_of, Messages.accepted, Messages.new_submission, Messages.id_of, Kept.KeepsAlways}
 use Rattle.vz_refs.specs.Referring.{Referring}
 use Rattle.vz_surfaces.specs.Reading.{existing_count}
-use Rattle.vz_returns.specs.Lent.{resources_out}
-use Rattle.vz_returns.specs.Notes.{owed_count}
-use Rattle.vz_returns.specs.Owed.{waiting_on as owed_on}
-use Rattle.vz_surface_manager.specs.Waits.{Waits, AreWaiting, Tells, waiting_on}
-use Rattle.vz_surface_manager.specs.declared.changes.Accepted.{Accepted}
-use Rattle.vz_surface_manager.specs.Live.{Live, AreLive}
-use Rattle.vz_surface_manager.specs.Acceptance.{IsAccepting, HasRoomFor, new_one}
+use Rattle.vz_returns.specs.{Lent.resources_out, Notes.owed_count, Owed.waiting_on as owed_on}
+use Rattle.vz_surface_manager.specs.{Waits.Waits, Waits.AreWaiting, Waits.Tells, Waits.waiting_on, Live.Live, Live.AreLive, Settles.AreReady}
+use Rattle.vz_surface_manager.specs.{declared.changes.Accepted.Accepted, Acceptance.IsAccepting, Acceptance.HasRoomFor, Acceptance.new_one}
 use Rattle.vz_surface_manager.specs.declared.surface_manager.SurfaceManager.{SurfaceManager}
-use Rattle.vz_surface_manager.specs.Settles.{AreReady}
 use Rattle.vz_support.specs.Supporting.{Supported, IsSupport, IsNext, Sends}
-use Rattle.vz_manager.specs.declared.arriving.Coming.{Coming}
-use Rattle.vz_manager.specs.Followed.{IsWithin}
+use Rattle.vz_manager.specs.{declared.arriving.Coming.Coming, Followed.IsWithin}
 use Rattle.vz_manager.specs.Submitted.{IsComing, IsArriving, IsTakingIn, IsAcceptedAs, HasTakenIn}
-use Rattle.vz_manager.proofs.Judged.{due_told}
-use Rattle.vz_manager.proofs.Submits.{accepting, always_after, sender_of}
+use Rattle.vz_manager.proofs.{Judged.due_told, Submits.accepting, Submits.always_after, Submits.sender_of}
 
 -- The acceptance
 

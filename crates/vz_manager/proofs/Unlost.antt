@@ -3,27 +3,17 @@ use Rattle.std.proofs.Common.{◌≡◌, ℕ, ◌≤◌, Bool, true, false, not,
 use Rattle.std.proofs.Common.{length, refl, ap, sym, ◌∙◌, subst, cond, arith, Contains}
 use Rattle.std.specs.Prelude.{nat_lt}
 use Rattle.std.proofs.lemmas.Bool.{ltb-false}
-use Rattle.vz_ids.specs.declared.LocalSurfaceId.{LocalSurfaceId}
-use Rattle.vz_ids.specs.declared.SurfaceId.{SurfaceId}
-use Rattle.vz_ids.specs.declared.SurfaceRange.{SurfaceRange}
+use Rattle.vz_ids.specs.{declared.LocalSurfaceId.LocalSurfaceId, declared.SurfaceId.SurfaceId, declared.SurfaceRange.SurfaceRange}
 use Rattle.vz_frame.specs.declared.frame.CompositorFrame.{CompositorFrame}
-use Rattle.vz_rules.specs.Plan.{Plan}
+use Rattle.vz_rules.specs.{Plan.Plan, Scene.shown_frame, Scene.shown, Step.begin_answer, Kept.Keeps, Kept.stands_in}
 use Rattle.vz_rules.specs.World.{World, Client, Surface, FrameData, active_frames, frame_on, last_created, is_active}
-use Rattle.vz_rules.specs.Scene.{shown_frame, shown}
 use Rattle.vz_rules.specs.Reach.{has_id, referenced, naming, name_one, roots, reach, is_lost, lost_in}
 use Rattle.vz_rules.specs.Messages.{accepted, new_submission, with_surface, is_last, id_of}
-use Rattle.vz_rules.specs.Step.{begin_answer}
-use Rattle.vz_rules.specs.Kept.{Keeps, stands_in}
-use Rattle.vz_rules.proofs.Reached.{reach_is_least}
-use Rattle.vz_rules.proofs.Members.{filter_none, none_filtered}
+use Rattle.vz_rules.proofs.{Reached.reach_is_least, Members.filter_none, Members.none_filtered}
 use Rattle.vz_refs.specs.Referring.{Referring, Temporary, starts}
-use Rattle.vz_surface_manager.specs.Kept_surfaces.{AreKept, if_exists, root_of}
-use Rattle.vz_surface_manager.proofs.Accepted_kept.{same_named, frames_accepted}
-use Rattle.vz_surface_manager.proofs.Rooted.{roots_same}
-use Rattle.vz_surface_manager.specs.Acceptance.{new_one}
-use Rattle.vz_surface_manager.proofs.Rounded.{none_long}
-use Rattle.vz_manager.specs.declared.outcome.New.{New}
-use Rattle.vz_manager.specs.Submitted.{created_by}
+use Rattle.vz_surface_manager.specs.{Kept_surfaces.AreKept, Kept_surfaces.if_exists, Kept_surfaces.root_of, Acceptance.new_one}
+use Rattle.vz_surface_manager.proofs.{Accepted_kept.same_named, Accepted_kept.frames_accepted, Rooted.roots_same, Rounded.none_long}
+use Rattle.vz_manager.specs.{declared.outcome.New.New, Submitted.created_by}
 
 -- a change leaves the active frames, the surfaces, the root, and which surfaces are temporary
 pub record ReachesAlike (w u : World) (r s : Referring) : Type 0 where

@@ -1,12 +1,9 @@
 -- What items do to a colour at a point.
 use Rattle.std.proofs.Common.{◌≡◌, List, [], ◌∷◌, ◌++◌, refl, ap, sym, ◌∙◌, cond, append_assoc, append-nil}
-use Rattle.vz_geom.specs.declared.Point.{Point}
-use Rattle.vz_geom.specs.Rectangle.{has}
+use Rattle.vz_geom.specs.{declared.Point.Point, Rectangle.has}
 use Rattle.vz_pixels.specs.Colour.{Colour, transparent}
 use Rattle.vz_frame.specs.Blending.{laid}
-use Rattle.vz_flat.specs.declared.op.Op.{Op}
-use Rattle.vz_flat.specs.declared.op.Op.TheVariants.{Pop}
-use Rattle.vz_flat.specs.Ops.{Group, run, value}
+use Rattle.vz_flat.specs.{declared.op.Op.Op, declared.op.Op.TheVariants.Pop, Ops.Group, Ops.run, Ops.value}
 use Rattle.vz_occlude.specs.Items.{Items, Done, Filled, Blitted, Grouped, ops_of}
 use Rattle.vz_occlude.specs.Occluders.{laid_texel}
 

@@ -2,8 +2,7 @@
 use Rattle.std.proofs.Common.{◌≡◌, ℕ, ◌+◌, ◌-◌, ◌≤◌, ◌<◌, ◌∷◌, drop, length, ap, ◌∙◌, arith}
 use Rattle.std.specs.List.{SwappedAt}
 use Rattle.vz_flat.specs.declared.op.Op.{Op}
-use Rattle.vz_occlude.specs.declared.culler.OcclusionCuller.{OcclusionCuller}
-use Rattle.vz_occlude.specs.Walk_so_far.{IsKeptAt}
+use Rattle.vz_occlude.specs.{declared.culler.OcclusionCuller.OcclusionCuller, Walk_so_far.IsKeptAt}
 use Rattle.vz_occlude.proofs.Ends_of_lists.{swapped_behind, swapped_ahead, swapped_length}
 
 pub kept_at : (place : ℕ) (op : Op) (t u : OcclusionCuller) (k : ℕ) → place < t.kept → t.kept ≤ length t.ops.items → k ≡ t.kept - 1 → u.kept ≡ k

@@ -1,11 +1,9 @@
 -- The worked lists, computed.
 use Rattle.std.proofs.Common.{◌≡◌, ℕ, [], ◌∷◌, refl}
 use Rattle.vz_geom.specs.Rectangle.{points_in}
-use Rattle.vz_pixels.specs.Colour.{transparent}
-use Rattle.vz_pixels.specs.Block.{texel}
-use Rattle.vz_occlude.specs.Items.{ops_of, levels, items_of}
+use Rattle.vz_pixels.specs.{Colour.transparent, Block.texel}
+use Rattle.vz_occlude.specs.{Items.ops_of, Items.levels, Items.items_of, Occlusion.kept_items, Occlusion.gone_items, Occlusion.kept, Occlusion.gone}
 use Rattle.vz_occlude.specs.Occluders.{is_opaque_blit, occluders_of}
-use Rattle.vz_occlude.specs.Occlusion.{kept_items, gone_items, kept, gone}
 use Rattle.vz_occlude.specs.Worked.{rect, red, filled, green_behind, group_behind, behind_group, behind_texel}
 
 -- opens all definitions

@@ -1,23 +1,19 @@
 -- What stands behind a covering item is not seen in its area.
 use Rattle.std.proofs.Common.{◌≡◌, ℕ, Bool, true, false, ◌||◌, ◌==◌, List, [], ◌∷◌, ◌++◌, take, drop, refl, eq-eqb, ap, sym, ◌∙◌, cond}
 use Rattle.std.specs.List.{list_any, Any}
-use Rattle.std.proofs.lemmas.Bool.{and_parts, eqb-true}
-use Rattle.std.proofs.lemmas.List.{take-append-drop}
+use Rattle.std.proofs.{lemmas.Bool.and_parts, lemmas.Bool.eqb-true, lemmas.List.take-append-drop}
 use Rattle.std.proofs.lemmas.List.Folds.{list_any-append, Any-from_list_any, list_any-from_Any}
 use Rattle.vz_geom.specs.declared.Point.{Point}
 use Rattle.vz_geom.specs.Rectangle.{Rectangle, IsRectangle, has, Covers, covers_rect}
 use Rattle.vz_geom.proofs.Bounds.{covers_of_test, test_of_covers}
 use Rattle.vz_pixels.specs.Colour.{Colour, transparent, scale, over}
 use Rattle.vz_pixels.proofs.Over.{scale_full, opaque_hides}
-use Rattle.vz_frame.specs.declared.blend.Blend.{Blend}
+use Rattle.vz_frame.specs.{declared.blend.Blend.Blend, Blending.blend, Blending.laid}
 use Rattle.vz_frame.specs.declared.blend.Blend.TheVariants.{Over, Src, DstIn}
-use Rattle.vz_frame.specs.Blending.{blend, laid}
-use Rattle.vz_occlude.specs.declared.bound.TheConstants.{MOST_OCCLUDERS}
+use Rattle.vz_occlude.specs.{declared.bound.TheConstants.MOST_OCCLUDERS, Occlusion.is_occluded}
 use Rattle.vz_occlude.specs.Items.{Items, Done, Filled, Blitted, Grouped}
 use Rattle.vz_occlude.specs.Occluders.{is_opaque, laid_texel, is_opaque_blit, is_occluder, listed_if, occluders_of}
-use Rattle.vz_occlude.specs.Occlusion.{is_occluded}
-use Rattle.vz_occlude.proofs.Acted.{acted}
-use Rattle.vz_occlude.proofs.Points_laid.{each_point, all_points}
+use Rattle.vz_occlude.proofs.{Acted.acted, Points_laid.each_point, Points_laid.all_points}
 
 by_or : {P : Type 0} (a b : Bool) → (a || b) ≡ true → (a ≡ true → P) → (b ≡ true → P) → P
 by_or true b h f g = f refl

@@ -1,14 +1,11 @@
 -- The items of whole operations, and the operations of items.
 use Rattle.std.proofs.Common.{◌≡◌, ℕ, ◌+◌, ◌-◌, ◌≤◌, true, List, [], ◌∷◌, ◌++◌, length, refl, ap, sym, ◌∙◌, arith, append_assoc, append-nil}
-use Rattle.std.specs.Prelude.{nat_lt}
-use Rattle.std.specs.List.{list_all}
+use Rattle.std.specs.{Prelude.nat_lt, List.list_all}
 use Rattle.std.proofs.lemmas.Bool.{and_parts, eqb-true, ltb-true}
 use Rattle.vz_geom.specs.Rectangle.{Rectangle}
 use Rattle.vz_frame.specs.declared.blend.Blend.{Blend}
-use Rattle.vz_flat.specs.declared.op.Op.{Op}
+use Rattle.vz_flat.specs.{declared.op.Op.Op, declared.op.TheConstants.MOST_OPEN, Ops.is_nested, Ops.is_inside, Ops.is_whole}
 use Rattle.vz_flat.specs.declared.op.Op.TheVariants.{Fill, Blit, Push, Pop}
-use Rattle.vz_flat.specs.declared.op.TheConstants.{MOST_OPEN}
-use Rattle.vz_flat.specs.Ops.{is_nested, is_inside, is_whole}
 use Rattle.vz_occlude.specs.Items.{Items, Done, Filled, Blitted, Grouped, ops_of, put_first, put_group, levels, innermost, items_of}
 use Rattle.vz_occlude.specs.Walk_so_far.{ops_behind}
 

@@ -1,9 +1,7 @@
 -- What holds of all points that are listed of a rectangle holds of each point of it.
 use Rattle.std.proofs.Common.{◌≡◌, ℕ, zero, suc, ℤ, pos, ◌+ℤ◌, ◌≤ℤ◌, ◌<ℤ◌, nat_abs, Bool, true, ◌&&◌, sym, refl, ◌∙◌, arith}
 use Rattle.std.specs.List.{list_all}
-use Rattle.std.proofs.lemmas.Bool.{and_parts}
-use Rattle.std.proofs.lemmas.Int.{ints, by_lt_z}
-use Rattle.std.proofs.lemmas.List.Folds.{list_all-append}
+use Rattle.std.proofs.{lemmas.Bool.and_parts, lemmas.Int.ints, lemmas.Int.by_lt_z, lemmas.List.Folds.list_all-append}
 use Rattle.vz_geom.specs.declared.Point.{Point}
 use Rattle.vz_geom.specs.Rectangle.{Rectangle, has, row_points, rows_from, points_in}
 use Rattle.vz_geom.proofs.Sets.{IsIn, to_in, of_in}

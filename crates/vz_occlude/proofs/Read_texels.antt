@@ -1,18 +1,12 @@
 -- The texels of a Blit, row by row.
 use Rattle.std.proofs.Common.{◌≡◌, ℕ, zero, suc, ◌+◌, ◌-◌, ◌≤◌, ◌<◌, ℤ, pos, ◌+ℤ◌, ◌-ℤ◌, ◌≤ℤ◌, int_le, int_lt, nat_abs, Bool, true, false, ◌&&◌, ◌||◌, refl, ap, sym, ◌∙◌, arith, ◌==◌, eq-eqb, to_z, of_z, w32}
 use Rattle.std.specs.List.{list_all}
-use Rattle.std.proofs.lemmas.Bool.{and_parts, eqb-true}
-use Rattle.std.proofs.lemmas.Int.{ints}
-use Rattle.std.proofs.lemmas.List.Folds.{list_all-append}
+use Rattle.std.proofs.{lemmas.Bool.and_parts, lemmas.Bool.eqb-true, lemmas.Int.ints, lemmas.List.Folds.list_all-append}
 use Rattle.vz_geom.specs.Rectangle.{Rectangle, IsRectangle, is_empty_rect, row_points, rows_from, points_in}
-use Rattle.vz_geom.proofs.Sets.{le_true, lt_true}
-use Rattle.vz_geom.proofs.Bounds.{IsFull}
-use Rattle.vz_pixels.specs.Colour.{Colour}
-use Rattle.vz_pixels.specs.Block.{Block, texel}
-use Rattle.vz_flat.specs.Ops.{is_inside, is_span_inside}
-use Rattle.vz_flat.specs.declared.op.Op.TheVariants.{Blit}
-use Rattle.vz_occlude.specs.Occluders.{is_opaque, laid_texel, is_opaque_blit}
-use Rattle.vz_occlude.specs.Rows.{is_opaque_row, are_opaque_rows}
+use Rattle.vz_geom.proofs.{Sets.le_true, Sets.lt_true, Bounds.IsFull}
+use Rattle.vz_pixels.specs.{Colour.Colour, Block.Block, Block.texel}
+use Rattle.vz_flat.specs.{Ops.is_inside, Ops.is_span_inside, declared.op.Op.TheVariants.Blit}
+use Rattle.vz_occlude.specs.{Occluders.is_opaque, Occluders.laid_texel, Occluders.is_opaque_blit, Rows.is_opaque_row, Rows.are_opaque_rows}
 
 module _ (area : Rectangle) (block : Block) (tx ty : ℤ) where
   row_is : (n column row : ℕ) (x y : ℤ) → (x -ℤ area.x) +ℤ tx ≡ pos column → (y -ℤ area.y) +ℤ ty ≡ pos row

@@ -1,14 +1,11 @@
 -- What is kept makes the same of every colour.
 use Rattle.std.proofs.Common.{◌≡◌, Bool, true, false, refl, ap, ◌∙◌, cond}
-use Rattle.vz_geom.specs.declared.Point.{Point}
-use Rattle.vz_geom.specs.Rectangle.{Rectangle, has}
+use Rattle.vz_geom.specs.{declared.Point.Point, Rectangle.Rectangle, Rectangle.has}
 use Rattle.vz_pixels.specs.Colour.{Colour, transparent}
 use Rattle.vz_frame.specs.Blending.{laid}
 use Rattle.vz_occlude.specs.Items.{Items, Done, Filled, Blitted, Grouped}
-use Rattle.vz_occlude.specs.Occluders.{laid_texel}
-use Rattle.vz_occlude.specs.Occlusion.{is_occluded, kept_items}
-use Rattle.vz_occlude.proofs.Acted.{acted}
-use Rattle.vz_occlude.proofs.Occluded.{occluded_covered}
+use Rattle.vz_occlude.specs.{Occluders.laid_texel, Occlusion.is_occluded, Occlusion.kept_items}
+use Rattle.vz_occlude.proofs.{Acted.acted, Occluded.occluded_covered}
 
 -- an item before later ones: removed where it is occluded, and else kept
 module _ (p : Point) (area : Rectangle) (later : Items) (d made : Colour)

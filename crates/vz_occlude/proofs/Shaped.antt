@@ -1,13 +1,9 @@
 -- Operations of items: how deep they are, and whether they are whole.
 use Rattle.std.proofs.Common.{◌≡◌, ℕ, ◌+◌, ◌-◌, ◌≤◌, max, Bool, true, false, ◌&&◌, List, [], ◌∷◌, ◌++◌, refl, ap, sym, ◌∙◌, cond, arith, append_assoc, append-nil}
-use Rattle.std.specs.Prelude.{nat_lt}
-use Rattle.std.specs.List.{list_all}
-use Rattle.std.proofs.lemmas.Bool.{and_parts, lt-ltb}
-use Rattle.std.proofs.lemmas.List.Folds.{list_all-append}
-use Rattle.vz_flat.specs.declared.op.Op.{Op}
-use Rattle.vz_flat.specs.declared.op.Op.TheVariants.{Blit, Pop}
-use Rattle.vz_flat.specs.declared.op.TheConstants.{MOST_OPEN}
-use Rattle.vz_flat.specs.Ops.{is_nested, is_inside, is_whole, deepest}
+use Rattle.std.specs.{Prelude.nat_lt, List.list_all}
+use Rattle.std.proofs.{lemmas.Bool.and_parts, lemmas.Bool.lt-ltb, lemmas.List.Folds.list_all-append}
+use Rattle.vz_flat.specs.{declared.op.Op.Op, declared.op.TheConstants.MOST_OPEN}
+use Rattle.vz_flat.specs.{declared.op.Op.TheVariants.Blit, declared.op.Op.TheVariants.Pop, Ops.is_nested, Ops.is_inside, Ops.is_whole, Ops.deepest}
 use Rattle.vz_flat.proofs.Nested.{deepest_least}
 use Rattle.vz_occlude.specs.Items.{Items, Done, Filled, Blitted, Grouped, ops_of}
 use Rattle.vz_occlude.specs.Occlusion.{is_occluded, kept_items}

@@ -1,26 +1,18 @@
 -- Operations one more at a time, of which the later ones are read as items.
 use Rattle.std.proofs.Common.{◌≡◌, ℕ, zero, suc, ◌+◌, ◌-◌, ◌≤◌, ◌<◌, ◌^◌, Bool, true, false, List, [], ◌∷◌, ◌++◌, take, drop, length, refl, ap, sym, ◌∙◌, cond, subst, arith, append_assoc, append-nil, length-append}
 use Rattle.std.specs.Prelude.{nat_lt, ⊤, Some, slice_get, slice_index_or}
-use Rattle.std.proofs.lemmas.Option.{slice_get_read}
+use Rattle.std.proofs.{lemmas.Option.slice_get_read, lemmas.Bool.and_parts}
 use Rattle.std.specs.List.{list_all, list_any}
-use Rattle.std.proofs.lemmas.Bool.{and_parts}
-use Rattle.std.proofs.lemmas.List.{take_all, take-append-le, length-take}
-use Rattle.std.proofs.lemmas.List.Folds.{list_all-append}
+use Rattle.std.proofs.{lemmas.List.take_all, lemmas.List.take-append-le, lemmas.List.length-take, lemmas.List.Folds.list_all-append}
 use Rattle.vz_geom.specs.Rectangle.{Rectangle, covers_rect}
 use Rattle.vz_frame.specs.declared.blend.Blend.{Blend}
-use Rattle.vz_flat.specs.declared.op.Op.{Op}
+use Rattle.vz_flat.specs.{declared.op.Op.Op, declared.op.TheConstants.MOST_OPEN, Ops.is_nested, Ops.is_inside, Ops.is_whole}
 use Rattle.vz_flat.specs.declared.op.Op.TheVariants.{Fill, Blit, Push, Pop}
-use Rattle.vz_flat.specs.declared.op.TheConstants.{MOST_OPEN}
-use Rattle.vz_flat.specs.Ops.{is_nested, is_inside, is_whole}
-use Rattle.vz_occlude.specs.declared.bound.TheConstants.{MOST_OCCLUDERS}
-use Rattle.vz_occlude.specs.declared.role.Role.{Role}
+use Rattle.vz_occlude.specs.{declared.bound.TheConstants.MOST_OCCLUDERS, declared.culler.Level.Level, Roles.role_of, Roles.occludes}
+use Rattle.vz_occlude.specs.{declared.role.Role.Role, declared.culler.OcclusionCuller.OcclusionCuller, Occluders.occluders_of, Occluders.listed_if}
 use Rattle.vz_occlude.specs.declared.role.Role.TheVariants.{Single, Begins, Ends}
-use Rattle.vz_occlude.specs.declared.culler.Level.{Level}
-use Rattle.vz_occlude.specs.declared.culler.OcclusionCuller.{OcclusionCuller}
 use Rattle.vz_occlude.specs.Items.{Items, Done, Filled, Blitted, Grouped, ops_of, put_first, put_group, levels, innermost, items_of}
-use Rattle.vz_occlude.specs.Occluders.{occluders_of, listed_if}
 use Rattle.vz_occlude.specs.Occlusion.{is_occluded, kept_items, gone_items, kept, gone}
-use Rattle.vz_occlude.specs.Roles.{role_of, occludes}
 use Rattle.vz_occlude.specs.Walk_so_far.{ops_behind, occluders_behind, gone_behind, level_of, levels_behind, IsAt, IsKeptAt, Precedes, HasTaken}
 use Rattle.vz_occlude.proofs.Parsed.{AreLevels, levels_are}
 use Rattle.vz_occlude.proofs.Walked.{IsBefore, fill_before, blit_before, start_inside, occluded_is, at_occluded, at_kept, at_end, remembered, goes_up, outer_occluders, at_occluded_group, at_kept_group}

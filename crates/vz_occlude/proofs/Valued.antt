@@ -2,14 +2,10 @@
 use Rattle.std.proofs.Common.{◌≡◌, ℕ, ◌+◌, ◌≤◌, Bool, true, false, if◌then◌else◌, List, refl, ap, sym, ◌∙◌, subst, arith}
 use Rattle.vz_geom.specs.declared.Point.{Point}
 use Rattle.vz_pixels.specs.Colour.{Colour}
-use Rattle.vz_flat.specs.declared.op.Op.{Op}
-use Rattle.vz_flat.specs.Ops.{value, is_whole, deepest}
+use Rattle.vz_flat.specs.{declared.op.Op.Op, Ops.value, Ops.is_whole, Ops.deepest}
 use Rattle.vz_occlude.specs.Items.{Items, Done, Filled, Blitted, Grouped, items_of, ops_of}
 use Rattle.vz_occlude.specs.Occlusion.{is_occluded, kept, gone, kept_items, gone_items}
-use Rattle.vz_occlude.proofs.Acted.{value_of_items}
-use Rattle.vz_occlude.proofs.Same.{kept_same}
-use Rattle.vz_occlude.proofs.Shaped.{kept_whole, kept_deep}
-use Rattle.vz_occlude.proofs.Parsed.{items_are}
+use Rattle.vz_occlude.proofs.{Acted.value_of_items, Same.kept_same, Shaped.kept_whole, Shaped.kept_deep, Parsed.items_are}
 
 -- at each point and on each colour
 pub kept_value : (ops : List Op) (p : Point) (d : Colour) → is_whole ops ≡ true → value (kept ops) p d ≡ value ops p d

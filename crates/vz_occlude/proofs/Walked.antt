@@ -6,12 +6,10 @@ use Rattle.vz_geom.specs.Rectangle.{Rectangle, covers_rect}
 use Rattle.vz_frame.specs.declared.blend.Blend.{Blend}
 use Rattle.vz_flat.specs.declared.op.Op.{Op}
 use Rattle.vz_flat.specs.declared.op.Op.TheVariants.{Fill, Blit, Push, Pop}
-use Rattle.vz_occlude.specs.declared.bound.TheConstants.{MOST_OCCLUDERS}
-use Rattle.vz_occlude.specs.declared.culler.Level.{Level}
-use Rattle.vz_occlude.specs.declared.culler.OcclusionCuller.{OcclusionCuller}
+use Rattle.vz_occlude.specs.{declared.bound.TheConstants.MOST_OCCLUDERS, declared.culler.Level.Level}
+use Rattle.vz_occlude.specs.{declared.culler.OcclusionCuller.OcclusionCuller, Occlusion.is_occluded, Occlusion.kept_items, Occlusion.gone_items}
 use Rattle.vz_occlude.specs.Items.{Items, Done, Filled, Blitted, Grouped, ops_of}
 use Rattle.vz_occlude.specs.Occluders.{occluders_of, listed_if, is_occluder, is_opaque, is_opaque_blit}
-use Rattle.vz_occlude.specs.Occlusion.{is_occluded, kept_items, gone_items}
 use Rattle.vz_occlude.specs.Walk_so_far.{ops_behind, kept_behind, occluders_behind, gone_behind, level_of, levels_behind, IsAt}
 use Rattle.vz_occlude.proofs.Ends_of_lists.{same_ends, count_behind, last_ones}
 

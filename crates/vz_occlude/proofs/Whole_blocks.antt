@@ -1,17 +1,12 @@
 -- A Blit that draws a whole block draws opaque texels alone only if the block is opaque.
 use Rattle.std.proofs.Common.{◌≡◌, ℕ, zero, suc, ◌+◌, ◌-◌, ◌*◌, ◌≤◌, ◌<◌, ℤ, pos, nat_abs, nat_lt, Bool, true, false, ◌&&◌, List, [], ◌∷◌, length, get_or, refl, ap, sym, subst, ◌∙◌, arith}
 use Rattle.std.specs.List.{list_all}
-use Rattle.std.proofs.lemmas.Bool.{and_parts, ltb-true, ltb-false}
-use Rattle.std.proofs.lemmas.Int.{ints}
+use Rattle.std.proofs.{lemmas.Bool.and_parts, lemmas.Bool.ltb-true, lemmas.Bool.ltb-false, lemmas.Int.ints}
 use Rattle.vz_geom.specs.Rectangle.{Rectangle, is_empty_rect}
-use Rattle.vz_pixels.specs.Colour.{Colour, transparent}
-use Rattle.vz_pixels.specs.Block.{Block, texel, are_opaque}
-use Rattle.vz_flat.specs.Ops.{is_inside}
-use Rattle.vz_flat.specs.declared.op.Op.TheVariants.{Blit}
-use Rattle.vz_occlude.specs.Occluders.{is_opaque, is_opaque_blit}
-use Rattle.vz_occlude.specs.Rows.{is_opaque_row, are_opaque_rows}
-use Rattle.vz_occlude.proofs.Opaque_blocks.{lt_true}
-use Rattle.vz_occlude.proofs.Read_texels.{blit_is, within, IsWithin}
+use Rattle.vz_pixels.specs.{Colour.Colour, Colour.transparent, Block.Block, Block.texel, Block.are_opaque}
+use Rattle.vz_flat.specs.{Ops.is_inside, declared.op.Op.TheVariants.Blit}
+use Rattle.vz_occlude.specs.{Occluders.is_opaque, Occluders.is_opaque_blit, Rows.is_opaque_row, Rows.are_opaque_rows}
+use Rattle.vz_occlude.proofs.{Opaque_blocks.lt_true, Read_texels.blit_is, Read_texels.within, Read_texels.IsWithin}
 
 -- colours are opaque if each of them is
 all_opaque : (cs : List Colour) → ((k : ℕ) → k < length cs → is_opaque (get_or cs k transparent) ≡ true) → list_all is_opaque cs ≡ true

@@ -1,7 +1,6 @@
 -- What stands as bytes are added to a file by calls one after the other.
 use Rattle.std.proofs.Common.{◌≡◌, ℕ, ◌+◌, List, [], ◌++◌, length, take, Some, IsTrue, sym, ap, subst, ◌∙◌, arith, append_assoc}
-use Rattle.std.proofs.Math.Seq.{take-append-add}
-use Rattle.std.proofs.lemmas.List.{length-append, take-append-le}
+use Rattle.std.proofs.{Math.Seq.take-append-add, lemmas.List.length-append, lemmas.List.take-append-le}
 use Rattle.vz_outside.proofs.Calls.{Ran, ran_none, ran_then_ran, kept_same, kept_then_kept, append_nothing, append_then_append, known_after, with_more-with_more}
 use Rattle.vz_outside.specs.Shelved.{Shelved, Name, Writing, KeepsOthers, Appends, AppendsFront, with_more}
 

@@ -1,19 +1,12 @@
 -- How many steps each actor has taken.
 use Rattle.std.proofs.Common.{◌≡◌, ℕ, ◌+◌, ◌<◌, ◌≤◌, Bool, true, false, ◌==◌, List, [], ◌∷◌, ◌++◌, length, take, drop, get_or, refl, sym, ap, subst, ◌∙◌, arith, zero, suc, cond}
-use Rattle.std.specs.Prelude.{min, count_by, ◌^◌, ◌-◌}
-use Rattle.std.specs.List.{All}
-use Rattle.std.proofs.lemmas.Bool.{eqb-true}
-use Rattle.std.proofs.lemmas.List.{take_more}
-use Rattle.std.proofs.lemmas.Grind.{common_steps}
-use Rattle.std.proofs.lemmas.Bool.Decides.{nat_tests}
+use Rattle.std.specs.{Prelude.min, Prelude.count_by, Prelude.◌^◌, Prelude.◌-◌, List.All}
+use Rattle.std.proofs.{lemmas.Bool.eqb-true, lemmas.List.take_more, lemmas.Grind.common_steps, lemmas.Bool.Decides.nat_tests}
 use Rattle.vz_rules.proofs.Counts.{count_push}
 use Rattle.vz_base.specs.declared.limits.TheConstants.{MOST_FILES}
-use Rattle.vz_rules.specs.Plan.{Plan}
-use Rattle.vz_rules.specs.World.{World, opening}
-use Rattle.vz_rules.specs.declared.entry.Event.{Event}
+use Rattle.vz_rules.specs.{Plan.Plan, declared.entry.Event.Event}
+use Rattle.vz_rules.specs.{World.World, World.opening, declared.entry.Entry.Entry, Step.step_in, Step.NamesClient, Step.LegalFrom, Step.Legal}
 use Rattle.vz_rules.specs.declared.entry.Event.TheVariants as event
-use Rattle.vz_rules.specs.declared.entry.Entry.{Entry}
-use Rattle.vz_rules.specs.Step.{step_in, NamesClient, LegalFrom, Legal}
 use Rattle.vz_player.specs.Played.{next_number, actor_in, is_step_of, steps_of}
 
 -- these are the steps of so many actors in these entries

@@ -2,15 +2,10 @@
 use Rattle.std.proofs.Common.{◌≡◌, ℕ, suc, nat_abs, Option, Some, None, List, [], ◌∷◌, ◌++◌, length, map, reverse, refl, sym, ap, ◌∙◌, mul_comm, slice_get}
 use Rattle.std.specs.Prelude.{◌-◌}
 use Rattle.std.proofs.lemmas.List.{length-map, reverse-append, reverse-reverse}
-use Rattle.vz_geom.specs.declared.Point.{Point}
-use Rattle.vz_geom.specs.declared.Size.{Size}
-use Rattle.vz_geom.specs.Rectangle.{Rectangle, points_of}
+use Rattle.vz_geom.specs.{declared.Point.Point, declared.Size.Size, Rectangle.Rectangle, Rectangle.points_of}
 use Rattle.vz_pixels.specs.Colour.{Colour, black}
 use Rattle.vz_buffers.specs.Canvas.{pixel_count}
-use Rattle.vz_rules.specs.Plan.{Plan}
-use Rattle.vz_rules.specs.World.{Scene}
-use Rattle.vz_rules.specs.declared.entry.Entry.{Entry}
-use Rattle.vz_rules.specs.Paint.{full, picture}
+use Rattle.vz_rules.specs.{Plan.Plan, World.Scene, declared.entry.Entry.Entry, Paint.full, Paint.picture}
 use Rattle.vz_rules.specs.Frames.{DrawnFrame, drawn_frames, picture_of, patched, repainted, stale, written_of, written}
 use Rattle.vz_machine.proofs.Points.{length_points}
 

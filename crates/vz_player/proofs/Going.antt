@@ -1,15 +1,10 @@
 -- A player goes on by an event.
 use Rattle.std.proofs.Common.{◌≡◌, ℕ, Bool, true, false, Option, List, [], ◌∷◌, ◌++◌, map, refl, sym, ap, subst, ◌∙◌, ◌+◌, add-zero, arith}
-use Rattle.std.specs.Prelude.{IsSome, IfSome}
-use Rattle.std.specs.List.{flat_map}
+use Rattle.std.specs.{Prelude.IsSome, Prelude.IfSome, List.flat_map}
 use Rattle.std.proofs.lemmas.List.{map-append}
 use Rattle.vz_pixels.specs.Colour.{Colour}
 use Rattle.vz_buffers.specs.Canvas.{Canvas}
-use Rattle.vz_rules.specs.Plan.{Plan}
-use Rattle.vz_rules.specs.World.{World}
-use Rattle.vz_rules.specs.declared.entry.Event.{Event}
-use Rattle.vz_rules.specs.declared.entry.Entry.{Entry}
-use Rattle.vz_rules.specs.Step.{entry_in}
+use Rattle.vz_rules.specs.{Plan.Plan, World.World, declared.entry.Event.Event, declared.entry.Entry.Entry, Step.entry_in}
 use Rattle.vz_rules.specs.Frames.{pixel_bytes, frames_bytes, written, written_of, painted, painted_of, drawn_frames, drawn_frames_from}
 use Rattle.vz_display.specs.Displayed.{Displayed, current, buffer_with}
 use Rattle.vz_player.specs.Played.{Played, first_played, next_entry, played_on, frames_of, painted_by, Writes}

@@ -1,16 +1,10 @@
 -- The frames that a history writes stay as it goes on.
 use Rattle.std.proofs.Common.{◌≡◌, ℕ, List, [], ◌∷◌, ◌++◌, reverse, append-nil, refl, ap, ◌∙◌}
-use Rattle.std.specs.List.{flat_map}
-use Rattle.std.specs.Prelude.{slice_get, ◌-◌}
-use Rattle.std.proofs.lemmas.List.{reverse-append}
-use Rattle.std.proofs.lemmas.Grind.{flat_map-append}
+use Rattle.std.specs.{List.flat_map, Prelude.slice_get, Prelude.◌-◌}
+use Rattle.std.proofs.{lemmas.List.reverse-append, lemmas.Grind.flat_map-append}
 use Rattle.vz_geom.specs.declared.Size.{Size}
 use Rattle.vz_pixels.specs.Colour.{Colour}
-use Rattle.vz_rules.specs.Plan.{Plan}
-use Rattle.vz_rules.specs.World.{opening}
-use Rattle.vz_rules.specs.declared.entry.Event.{Event}
-use Rattle.vz_rules.specs.declared.entry.Entry.{Entry}
-use Rattle.vz_rules.specs.Step.{world_from}
+use Rattle.vz_rules.specs.{Plan.Plan, World.opening, declared.entry.Event.Event, declared.entry.Entry.Entry, Step.world_from}
 use Rattle.vz_rules.specs.Frames.{DrawnFrame, drawn_frames, drawn_frames_from, pixel_bytes, repainted, stale, written_of, written, frames_bytes}
 use Rattle.vz_rules.proofs.Runs.{drawn_frames_from-append}
 use Rattle.vz_player.specs.Played.{Played, first_played, played_on, next_entry, frames_of}

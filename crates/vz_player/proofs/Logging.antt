@@ -1,14 +1,10 @@
 -- What stands as a log is made and written in pieces.
 use Rattle.std.proofs.Common.{◌≡◌, ℕ, ◌+◌, ◌<◌, ◌≤◌, List, [], ◌∷◌, ◌++◌, length, take, drop, get_or, refl, sym, ap, subst, ◌∙◌, arith, append_assoc, append-nil, take_all, codes}
 use Rattle.std.specs.List.{flat_map}
-use Rattle.std.proofs.lemmas.Grind.{flat_map-append}
-use Rattle.std.proofs.lemmas.List.{take_more, take-append-drop}
-use Rattle.std.proofs.lemmas.List.Concat.{flat_map-cons}
+use Rattle.std.proofs.{lemmas.Grind.flat_map-append, lemmas.List.take_more, lemmas.List.take-append-drop, lemmas.List.Concat.flat_map-cons}
 use Rattle.vz_outside.specs.Shelved.{Shelved, Appends, AppendsFront, KeepsOthers}
 use Rattle.vz_outside.proofs.Calls.{Ran, append_nothing}
-use Rattle.vz_rules.specs.declared.entry.Entry.{Entry}
-use Rattle.vz_rules.specs.declared.entry.Rest.{Rest}
-use Rattle.vz_rules.specs.Log.{log_text, entry_text, held_text, open_text}
+use Rattle.vz_rules.specs.{declared.entry.Entry.Entry, declared.entry.Rest.Rest, Log.log_text, Log.entry_text, Log.held_text, Log.open_text}
 use Rattle.vz_player.specs.Written.{AppendsPart}
 use Rattle.vz_player.proofs.Adding.{HasAdded, more_added, front_added}
 

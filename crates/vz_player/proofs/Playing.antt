@@ -1,27 +1,16 @@
 -- What a player keeps, and what it shows, as it takes an event.
 use Rattle.std.proofs.Common.{◌≡◌, ℕ, ◌+◌, ◌≤◌, Bool, true, false, Option, Some, None, Result, Ok, Err, List, [], ◌∷◌, ◌++◌, length, map, reverse, inl, inr, refl, sym, ap, subst, ◌∙◌, arith}
-use Rattle.std.specs.Prelude.{is_some, IfSome, OnErr}
-use Rattle.std.specs.Option.{option_map}
+use Rattle.std.specs.{Prelude.is_some, Prelude.IfSome, Prelude.OnErr, Option.option_map}
 use Rattle.vz_base.specs.declared.limits.TheConstants.{MOST_FILES}
-use Rattle.vz_geom.specs.declared.Size.{Size}
-use Rattle.vz_geom.specs.Rectangle.{Rectangle}
-use Rattle.vz_geom.specs.Display.{IsDisplaySize}
+use Rattle.vz_geom.specs.{declared.Size.Size, Rectangle.Rectangle, Display.IsDisplaySize}
 use Rattle.vz_pixels.specs.Colour.{Colour}
-use Rattle.vz_rules.specs.Plan.{Plan}
-use Rattle.vz_rules.specs.World.{World, Machine, opening}
-use Rattle.vz_rules.specs.Scene.{scene_of}
-use Rattle.vz_rules.specs.declared.entry.Event.{Event}
-use Rattle.vz_rules.specs.declared.entry.Entry.{Entry}
-use Rattle.vz_rules.specs.declared.entry.Reply.{Reply}
-use Rattle.vz_rules.specs.declared.entry.Reply.TheVariants.{Drawn}
-use Rattle.vz_rules.specs.declared.entry.Rest.{Rest}
-use Rattle.vz_rules.specs.Log.{rest_in, rest_of}
+use Rattle.vz_rules.specs.{Plan.Plan, World.World, World.Machine, World.opening, declared.entry.Entry.Entry, declared.entry.Reply.TheVariants.Drawn}
+use Rattle.vz_rules.specs.{Scene.scene_of, declared.entry.Event.Event, declared.entry.Reply.Reply, declared.entry.Rest.Rest, Log.rest_in, Log.rest_of}
 use Rattle.vz_rules.specs.Step.{step_in, entry_in, world, world_from, NamesClient, Legal, LegalFrom}
 use Rattle.vz_rules.specs.Frames.{DrawnFrame, drawn_frame_of, drawn_frames, drawn_frames_from, painted}
 use Rattle.vz_buffers.proofs.Turning.{turns_size}
 use Rattle.vz_rules.proofs.Runs.{world-more, legal-more}
-use Rattle.vz_machine.specs.Pictured.{Pictured}
-use Rattle.vz_machine.specs.Stepping.{Goes, ShowsDrawn}
+use Rattle.vz_machine.specs.{Pictured.Pictured, Stepping.Goes, Stepping.ShowsDrawn}
 use Rattle.vz_display.specs.Displayed.{Displayed, first_displayed, current, buffer_with, display_at, display_after, steps_for}
 use Rattle.vz_display.proofs.Drawings.{first_is, current_is}
 use Rattle.vz_display.proofs.Histories.{drawn_is, written_is, steps_is, other_is}

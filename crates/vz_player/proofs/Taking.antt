@@ -1,18 +1,13 @@
 -- What stands as a player takes events, and its frames are written.
 use Rattle.std.proofs.Common.{◌≡◌, ℕ, ◌+◌, ◌<◌, ◌⊎◌, Bool, true, false, List, [], ◌∷◌, ◌++◌, length, map, take, get_or, suc, Option, Some, None, inl, inr, refl, sym, ap, subst, ◌∙◌, append_assoc, append-nil, arith}
 use Rattle.std.specs.List.{flat_map}
-use Rattle.std.proofs.Math.Seq.{take-suc}
-use Rattle.std.proofs.lemmas.List.{map-append}
-use Rattle.vz_geom.specs.declared.Size.{Size}
-use Rattle.vz_geom.specs.Display.{IsDisplaySize}
+use Rattle.std.proofs.{Math.Seq.take-suc, lemmas.List.map-append}
+use Rattle.vz_geom.specs.{declared.Size.Size, Display.IsDisplaySize}
 use Rattle.vz_pixels.specs.Colour.{Colour}
 use Rattle.vz_buffers.specs.Canvas.{Canvas, pixel_count}
 use Rattle.vz_outside.proofs.Calls.{Ran, append_nothing, with_more-nil}
 use Rattle.vz_outside.specs.Shelved.{Shelved, Name, Writing, KeepsOthers, Appends, AppendsFront}
-use Rattle.vz_rules.specs.declared.entry.Event.{Event}
-use Rattle.vz_rules.specs.Frames.{frames_bytes, pixel_bytes}
-use Rattle.vz_rules.specs.declared.entry.Entry.{Entry}
-use Rattle.vz_rules.specs.Step.{entry_in}
+use Rattle.vz_rules.specs.{declared.entry.Event.Event, Frames.frames_bytes, Frames.pixel_bytes, declared.entry.Entry.Entry, Step.entry_in}
 use Rattle.vz_display.specs.Displayed.{Displayed, current, buffer_with}
 use Rattle.vz_player.specs.Played.{Played, played_on, next_entry, frames_of, painted_by, Writes, StopsAt}
 use Rattle.vz_player.specs.Shown.{ShowsFrame, frame_on}

@@ -1,26 +1,16 @@
 -- What a hit tester keeps, and what it notes, as it takes an event.
 use Rattle.std.proofs.Common.{◌≡◌, ◌≤◌, Bool, true, false, ◌&&◌, Option, Some, None, List, [], ◌∷◌, ◌++◌, length, reverse, refl, sym, ap, subst, ◌∙◌, append-nil, cond}
-use Rattle.std.specs.Prelude.{is_some}
-use Rattle.std.specs.Option.{option_and_then}
+use Rattle.std.specs.{Prelude.is_some, Option.option_and_then}
 use Rattle.std.proofs.lemmas.List.{reverse-append}
 use Rattle.vz_base.specs.declared.limits.TheConstants.{MOST_FILES}
-use Rattle.vz_geom.specs.declared.Point.{Point}
-use Rattle.vz_geom.specs.Rectangle.{Rectangle, is_empty_rect}
+use Rattle.vz_geom.specs.{declared.Point.Point, Rectangle.Rectangle, Rectangle.is_empty_rect}
 use Rattle.vz_frame.specs.Frame.{first_of}
-use Rattle.vz_rules.specs.Plan.{Plan}
-use Rattle.vz_rules.specs.World.{World, Machine, Scene, opening}
-use Rattle.vz_rules.specs.Scene.{scene_of}
-use Rattle.vz_rules.specs.Walk.{walk_of, too_much}
-use Rattle.vz_rules.specs.Damage.{drawn_damage}
-use Rattle.vz_rules.specs.declared.entry.Event.{Event}
+use Rattle.vz_rules.specs.{Plan.Plan, World.World, World.Machine, World.Scene, World.opening, Walk.walk_of, Walk.too_much, declared.entry.Entry.Entry}
+use Rattle.vz_rules.specs.{Scene.scene_of, Damage.drawn_damage, declared.entry.Event.Event, declared.entry.Reply.Reply, Hit.Target, Hit.hit_at}
 use Rattle.vz_rules.specs.declared.entry.Event.TheVariants as event
-use Rattle.vz_rules.specs.declared.entry.Entry.{Entry}
-use Rattle.vz_rules.specs.declared.entry.Reply.{Reply}
 use Rattle.vz_rules.specs.declared.entry.Reply.TheVariants as reply
-use Rattle.vz_rules.specs.Messages.{Answer, says}
-use Rattle.vz_rules.specs.Hit.{Target, hit_at}
+use Rattle.vz_rules.specs.{Messages.Answer, Messages.says, Frames.DrawnFrame, Frames.drawn_frame_of, Frames.drawn_frames, Frames.drawn_frames_from}
 use Rattle.vz_rules.specs.Step.{scene_answer, draw_answer, answer_to, outcome_of, step_in, entry_in, accepted_frames, world, world_from, NamesClient, Legal, LegalFrom}
-use Rattle.vz_rules.specs.Frames.{DrawnFrame, drawn_frame_of, drawn_frames, drawn_frames_from}
 use Rattle.vz_rules.specs.Whole.{walk_in, too_much_in, drawable_in, hit_in, hit_last}
 use Rattle.vz_rules.proofs.Runs.{world-more, legal-more, drawn_frames_from-append}
 use Rattle.vz_machine.specs.Stepping.{Goes, ShowsDrawn, IsOnDisplay}

@@ -1,18 +1,13 @@
 -- The entry of an event, and that a drawing alone has a picture.
 use Rattle.std.proofs.Common.{◌≡◌, Bool, true, false, None, sym, ap, subst, ◌∙◌}
 use Rattle.std.specs.Prelude.{is_some, if◌then◌else◌}
-use Rattle.vz_rules.specs.declared.entry.Event.{Event}
+use Rattle.vz_rules.specs.{declared.entry.Event.Event, declared.entry.Reply.Reply, declared.entry.Effects.Effects}
 use Rattle.vz_rules.specs.declared.entry.Event.TheVariants as event
-use Rattle.vz_rules.specs.declared.entry.Reply.{Reply}
 use Rattle.vz_rules.specs.declared.entry.Reply.TheVariants as reply
-use Rattle.vz_rules.specs.declared.entry.Effects.{Effects}
-use Rattle.vz_rules.specs.declared.entry.Entry.{Entry}
-use Rattle.vz_rules.specs.World.{World, Client, Machine}
-use Rattle.vz_rules.specs.Messages.{Answer, says, accepted}
+use Rattle.vz_rules.specs.{declared.entry.Entry.Entry, World.World, World.Client, World.Machine, Messages.Answer, Messages.says, Messages.accepted}
 use Rattle.vz_rules.specs.Step.{Outcome, begin_answer, done_answer, answer_to, outcome_of, step_in, entry_in}
 use Rattle.vz_rules.proofs.Cases.{client_cases}
-use Rattle.vz_machine.specs.Stepping.{Answers, ShowsDrawn}
-use Rattle.vz_machine.specs.declared.machine.Step.{Step}
+use Rattle.vz_machine.specs.{Stepping.Answers, Stepping.ShowsDrawn, declared.machine.Step.Step}
 
 -- an event that is no drawing
 abbrev pub IsOther : Event → Type 0
