@@ -1,28 +1,20 @@
 -- The rows of an area are the area.
-use Rattle.std.proofs.Common.{◌≡◌, ℕ, ◌≤◌, ◌<◌, pos, nat_abs, ◌≤ℤ◌, true, List, length, map, refl, sym, ap, ◌∙◌, subst, arith}
-use Rattle.std.proofs.lemmas.Int.{ints}
-use Rattle.vz_geom.specs.declared.Point.{Point}
+use Rattle.std.proofs.Common.{◌≡◌, ℕ, ◌≤◌, ◌<◌, pos, nat_abs, ◌≤ℤ◌, true, List, length, map, refl, ap, ◌∙◌, arith}
+use Rattle.std.proofs.{lemmas.Int.ints, lemmas.Bool.Decides.nat_tests}
+use Rattle.vz_geom.specs.{declared.Point.Point, Rectangle.Rectangle, Rectangle.has, Rectangle.points_of, Rectangle.sized, Display.IsDisplaySize}
 use Rattle.vz_geom.specs.declared.Size.{Size}
-use Rattle.vz_geom.specs.Rectangle.{Rectangle, has, points_of, sized}
-use Rattle.vz_geom.specs.Display.{IsDisplaySize}
 use Rattle.vz_pixels.specs.Colour.{Colour, black}
-use Rattle.vz_buffers.specs.Canvas.{pixel_count, pixel_place}
-use Rattle.vz_buffers.specs.Bands.{rows_put}
+use Rattle.vz_buffers.specs.{Canvas.pixel_count, Canvas.pixel_place, Bands.rows_put}
 use Rattle.vz_rules.specs.Frames.{patched}
 use Rattle.vz_machine.specs.Pictured.{IsInside}
 use Rattle.vz_machine.proofs.Rows.{rows_end}
 use Rattle.vz_geom.proofs.Sets.{of_in}
-use Rattle.vz_flat.specs.declared.op.Op.{Op}
-use Rattle.vz_flat.specs.Ops.{value, is_whole, deepest}
-use Rattle.vz_paint.specs.Choice.{seen}
-use Rattle.vz_paint.proofs.Chosen.{seen_same, seen_whole, seen_deepest}
-use Rattle.vz_paint.specs.Row.{place_in}
-use Rattle.vz_paint.specs.Strips.{IsArea, strip_of}
-use Rattle.vz_paint.proofs.Painted.{rows_painted}
+use Rattle.vz_flat.specs.{declared.op.Op.Op, Ops.value, Ops.is_whole, Ops.deepest}
+use Rattle.vz_paint.specs.{Choice.seen, Row.place_in, Strips.strip_of}
+use Rattle.vz_paint.proofs.{Chosen.seen_same, Chosen.seen_whole, Chosen.seen_deepest, Painted.rows_painted}
 
 in_area : (area : Rectangle) (i k : ℕ) → k < nat_abs area.h → i < nat_abs area.w → pos 1 ≤ℤ area.w → pos 1 ≤ℤ area.h → has area (place_in area i k) ≡ true
-in_area area i k low less wide high =
-    of_in area (place_in area i k) (record { left = omega (arith, ints); right = omega (arith, ints, less, wide); top = omega (arith, ints); bottom = omega (arith, ints, low, high) })
+in_area area i k low less wide high = grind (arith, nat_tests, of_in area (place_in area i k), ints)
 
 -- what stands on a ground does in an area what all that is seen there does on black
 pub record StandsOn (area : Rectangle) (chosen rest : List Op) (ground : Colour) : Type 0 where
@@ -44,27 +36,8 @@ area_painted size area ops chosen rest ground olds now sides inside whole is sta
     let there : has area (place_in area i k) ≡ true = in_area area i k low less wide high in
     stands.same (place_in area i k) there ∙ (ap (λ l. value l (place_in area i k) black) is ∙ seen_same area (place_in area i k) there ops black whole)))
 
--- an area inside a display
-pub area_is : (size : Size) (area : Rectangle) → IsDisplaySize size → IsInside (sized size) area → IsArea area
-area_is size area sides inside =
-    let left = inside.left in
-    let right = inside.right in
-    let top = inside.top in
-    let bottom = inside.bottom in
-    let wide = sides.not_too_wide in
-    let high = sides.not_too_high in
-    record {
-      left = left;
-      right = omega (arith, ints, right, wide);
-      top = top;
-      bottom = omega (arith, ints, bottom, high);
-      wide = inside.wide;
-      high = inside.high;
-    }
-
 pub whole_is : (area : Rectangle) (ops chosen rest : List Op) (ground : Colour) → is_whole ops ≡ true → chosen ≡ seen area 0 ops → StandsOn area chosen rest ground → is_whole rest ≡ true
 whole_is area ops chosen rest ground whole is stands = stands.whole ∙ (ap is_whole is ∙ seen_whole area ops whole)
 
 pub room_is : (area : Rectangle) (ops chosen rest : List Op) (ground : Colour) (most : ℕ) → chosen ≡ seen area 0 ops → StandsOn area chosen rest ground → most ≡ deepest 0 ops → deepest 0 rest ≤ most
-room_is area ops chosen rest ground most is stands deep =
-    subst (λ n. n ≤ most) (sym (stands.deep ∙ ap (deepest 0) is)) (subst (λ n. deepest 0 (seen area 0 ops) ≤ n) (sym deep) (seen_deepest area ops))
+room_is area ops chosen rest ground most is stands deep = grind (arith, nat_tests, seen_deepest area ops)

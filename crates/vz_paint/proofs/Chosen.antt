@@ -1,33 +1,19 @@
 -- The operations that are seen in a part of the display do there what all of them do.
-use Rattle.std.proofs.Common.{◌≡◌, ℕ, zero, suc, ◌+◌, ◌-◌, ◌≤◌, Bool, true, false, not, ◌&&◌, ◌==◌, if◌then◌else◌, List, [], ◌∷◌, ◌++◌, length, refl, sym, ap, ◌∙◌, Some, append-nil, arith}
-use Rattle.std.specs.Prelude.{nat_lt}
-use Rattle.std.specs.List.{list_all}
-use Rattle.std.proofs.lemmas.Bool.{and_parts, ltb-true, eqb-true}
-use Rattle.vz_geom.specs.declared.Point.{Point}
-use Rattle.vz_geom.specs.Rectangle.{Rectangle, has, meet, plus, minus, corner}
+use Rattle.std.proofs.Common.{◌≡◌, ℕ, zero, suc, ◌+◌, ◌-◌, ◌≤◌, Bool, true, false, ◌&&◌, ◌==◌, if◌then◌else◌, List, [], ◌∷◌, ◌++◌, length, refl, sym, ap, ◌∙◌, append-nil, arith}
+use Rattle.std.specs.{Prelude.nat_lt, List.list_all}
+use Rattle.std.proofs.{lemmas.Bool.and_parts, lemmas.Bool.ltb-true, lemmas.Bool.eqb-true, lemmas.Bool.Decides.nat_tests}
+use Rattle.vz_geom.specs.{declared.Point.Point, Rectangle.Rectangle, Rectangle.has, Rectangle.meet}
 use Rattle.vz_frame.specs.Blending.{laid}
-use Rattle.vz_rules.specs.Paint.{texel_of}
-use Rattle.vz_geom.proofs.Bounds.{in_is_full}
-use Rattle.vz_geom.proofs.Sets.{has_meet_is}
+use Rattle.vz_geom.proofs.{Bounds.in_is_full, Sets.has_meet_is}
 use Rattle.vz_pixels.specs.Colour.{Colour, transparent}
-use Rattle.vz_flat.specs.declared.op.Op.{Op}
+use Rattle.vz_flat.specs.{declared.op.Op.Op, declared.op.TheConstants.MOST_OPEN}
 use Rattle.vz_flat.specs.declared.op.Op.TheVariants.{Fill, Blit, Push, Pop}
-use Rattle.vz_flat.specs.declared.op.TheConstants.{MOST_OPEN}
 use Rattle.vz_flat.specs.Ops.{Group, closed, run, value, is_nested, is_inside, is_whole, deepest}
 use Rattle.vz_paint.specs.Choice.{meets, seen}
 
-true_is_false : true ≡ false → ⊥
-true_is_false e = cc
-
 -- an area that does not meet a part has none of its points
 pub apart : (area part : Rectangle) (p : Point) → meets area part ≡ false → has part p ≡ true → has area p ≡ false
-apart area part p e in_part = by_test (has area p) refl
-  where
-    by_test : (t : Bool) → has area p ≡ t → has area p ≡ false
-    by_test false f = f
-    by_test true f =
-        let both : has (meet area part) p ≡ true = has_meet_is area part p ∙ (ap (λ t. t && has part p) f ∙ in_part) in
-        absurd (true_is_false (sym (ap not (in_is_full (meet area part) p both)) ∙ e))
+apart area part p e in_part = grind (arith, nat_tests, has_meet_is area part p, in_is_full (meet area part) p)
 
 module _ (part : Rectangle) (p : Point) (in_part : has part p ≡ true) where
   -- what is seen does what all does, in front of open groups and behind one that does not have the point
@@ -40,16 +26,13 @@ module _ (part : Rectangle) (p : Point) (in_part : has part p ≡ true) where
       → run p (if t then Fill area c o m ∷ seen part zero ops else seen part zero ops) groups d ≡ run p (Fill area c o m ∷ ops) groups d
   unfolding run
   fill_kept true area c o m ops e same n groups d long nested = same.plain n groups _ long nested
-  fill_kept false area c o m ops e same n groups d long nested =
-      same.plain n groups d long nested ∙ ap (λ t. run p ops groups (if t then laid m c o d else d)) (sym (apart area part p e in_part))
+  fill_kept false area c o m ops e same n groups d long nested = grind (arith, nat_tests, apart area part p e in_part)
 
   blit_kept : (t : Bool) (area : Rectangle) (block : _) (tx ty : _) (o : ℕ) (m : _) (ops : List Op) → meets area part ≡ t → IsSame ops → (n : ℕ) (groups : List Group) (d : Colour) → n ≡ length groups → is_nested n ops ≡ true
       → run p (if t then Blit area block tx ty o m ∷ seen part zero ops else seen part zero ops) groups d ≡ run p (Blit area block tx ty o m ∷ ops) groups d
   unfolding run
   blit_kept true area block tx ty o m ops e same n groups d long nested = same.plain n groups _ long nested
-  blit_kept false area block tx ty o m ops e same n groups d long nested =
-      same.plain n groups d long nested
-      ∙ ap (λ t. run p ops groups (if t then laid m (texel_of (Some block) (plus (minus p (corner area)) (record { x = tx; y = ty }))) o d else d)) (sym (apart area part p e in_part))
+  blit_kept false area block tx ty o m ops e same n groups d long nested = grind (arith, nat_tests, apart area part p e in_part)
 
   push_kept : (t : Bool) (area : Rectangle) (o : ℕ) (m : _) (ops : List Op) → meets area part ≡ t → IsSame ops → (n : ℕ) (groups : List Group) (d : Colour) → n ≡ length groups → is_nested (n + 1) ops ≡ true
       → run p (if t then Push area o m ∷ seen part zero ops else seen part (suc zero) ops) groups d ≡ run p (Push area o m ∷ ops) groups d
@@ -114,100 +97,45 @@ module _ (part : Rectangle) (p : Point) (in_part : has part p ≡ true) where
 
 -- What is seen is whole, and opens no more groups
 
-none_of : (m : ℕ) → m ≡ 0 → (m == 0) ≡ true
-none_of m e = ap (λ n. n == 0) e
-
-fill_nested : (t : Bool) (m : ℕ) (op : Op) (xs : List Op) → is_nested m (op ∷ xs) ≡ is_nested m xs → is_nested m xs ≡ true → is_nested m (if t then op ∷ xs else xs) ≡ true
-fill_nested true m op xs e h = e ∙ h
-fill_nested false m op xs e h = h
-
-push_nested : (t : Bool) (m : ℕ) (area : Rectangle) (o : ℕ) (md : _) (xs ys : List Op) → nat_lt m MOST_OPEN ≡ true → is_nested (m + 1) xs ≡ true → is_nested m ys ≡ true → is_nested m (if t then Push area o md ∷ xs else ys) ≡ true
-unfolding is_nested
-push_nested true m area o md xs ys low h k = ap (λ t. t && is_nested (m + 1) xs) low ∙ h
-push_nested false m area o md xs ys low h k = k
-
 seen_nested : (part : Rectangle) (ops : List Op) (n m h : ℕ) → n ≡ m + h → is_nested n ops ≡ true → is_nested m (seen part h ops) ≡ true
 unfolding seen is_nested
-seen_nested part [] n m h sum e =
-    let all = eqb-true n 0 e in none_of m (omega (arith, all, sum))
-seen_nested part (Fill area c o md ∷ ops) n m zero sum e =
-    fill_nested (meets area part) m (Fill area c o md) (seen part zero ops) refl (seen_nested part ops n m zero sum e)
+seen_nested part [] n m h sum e = grind (arith, nat_tests, eqb-true)
+seen_nested part (Fill area c o md ∷ ops) n m zero sum e = grind (arith, nat_tests, seen_nested part ops n m zero sum e)
 seen_nested part (Fill area c o md ∷ ops) n m (suc h) sum e = seen_nested part ops n m (suc h) sum e
-seen_nested part (Blit area block tx ty o md ∷ ops) n m zero sum e =
-    fill_nested (meets area part) m (Blit area block tx ty o md) (seen part zero ops) refl (seen_nested part ops n m zero sum e)
+seen_nested part (Blit area block tx ty o md ∷ ops) n m zero sum e = grind (arith, nat_tests, seen_nested part ops n m zero sum e)
 seen_nested part (Blit area block tx ty o md ∷ ops) n m (suc h) sum e = seen_nested part ops n m (suc h) sum e
-seen_nested part (Push area o md ∷ ops) n m zero sum e =
-    let parts = and_parts (nat_lt n MOST_OPEN) (is_nested (n + 1) ops) e in
-    let same : n ≡ m = omega (arith, sum) in
-    push_nested (meets area part) m area o md (seen part zero ops) (seen part (suc zero) ops)
-    (ap (λ k. nat_lt k MOST_OPEN) (sym same) ∙ parts.0)
-    (seen_nested part ops (n + 1) (m + 1) zero (omega (arith, sum)) parts.1)
-    (seen_nested part ops (n + 1) m (suc zero) (omega (arith, sum)) parts.1)
-seen_nested part (Push area o md ∷ ops) n m (suc h) sum e =
-    seen_nested part ops (n + 1) m (suc (suc h)) (omega (arith, sum)) (and_parts (nat_lt n MOST_OPEN) (is_nested (n + 1) ops) e).1
-seen_nested part (Pop ∷ ops) n m zero sum e =
-    let parts = and_parts (nat_lt 0 n) (is_nested (n - 1) ops) e in
-    let same : n ≡ m = omega (arith, sum) in
-    ap (λ t. t && is_nested (m - 1) (seen part zero ops)) (ap (λ k. nat_lt 0 k) (sym same) ∙ parts.0)
-    ∙ seen_nested part ops (n - 1) (m - 1) zero (omega (arith, sum)) parts.1
-seen_nested part (Pop ∷ ops) n m (suc h) sum e =
-    seen_nested part ops (n - 1) m h (omega (arith, sum)) (and_parts (nat_lt 0 n) (is_nested (n - 1) ops) e).1
-
-kept_inside : (t : Bool) (op : Op) (xs ys : List Op) → is_inside op ≡ true → list_all is_inside xs ≡ true → list_all is_inside ys ≡ true → list_all is_inside (if t then op ∷ xs else ys) ≡ true
-kept_inside true op xs ys h all all' = ap (λ t. t && list_all is_inside xs) h ∙ all
-kept_inside false op xs ys h all all' = all'
+seen_nested part (Push area o md ∷ ops) n m zero sum e = grind (arith, nat_tests, and_parts, same, seen_nested part ops)
+seen_nested part (Push area o md ∷ ops) n m (suc h) sum e = grind (arith, nat_tests, seen_nested part ops, and_parts)
+seen_nested part (Pop ∷ ops) n m zero sum e = grind (arith, nat_tests, and_parts, same, seen_nested part ops)
+seen_nested part (Pop ∷ ops) n m (suc h) sum e = grind (arith, nat_tests, seen_nested part ops, and_parts)
 
 seen_inside : (part : Rectangle) (ops : List Op) (h : ℕ) → list_all is_inside ops ≡ true → list_all is_inside (seen part h ops) ≡ true
 unfolding seen
 seen_inside part [] h e = refl
-seen_inside part (Fill area c o md ∷ ops) zero e =
-    let parts = and_parts (is_inside (Fill area c o md)) (list_all is_inside ops) e in
-    let rest = seen_inside part ops zero parts.1 in
-    kept_inside (meets area part) (Fill area c o md) (seen part zero ops) (seen part zero ops) parts.0 rest rest
+seen_inside part (Fill area c o md ∷ ops) zero e = grind (arith, nat_tests, and_parts, seen_inside part ops zero)
 seen_inside part (Fill area c o md ∷ ops) (suc h) e = seen_inside part ops (suc h) (and_parts (is_inside (Fill area c o md)) (list_all is_inside ops) e).1
-seen_inside part (Blit area block tx ty o md ∷ ops) zero e =
-    let parts = and_parts (is_inside (Blit area block tx ty o md)) (list_all is_inside ops) e in
-    let rest = seen_inside part ops zero parts.1 in
-    kept_inside (meets area part) (Blit area block tx ty o md) (seen part zero ops) (seen part zero ops) parts.0 rest rest
+seen_inside part (Blit area block tx ty o md ∷ ops) zero e = grind (arith, nat_tests, and_parts, seen_inside part ops zero)
 seen_inside part (Blit area block tx ty o md ∷ ops) (suc h) e = seen_inside part ops (suc h) (and_parts (is_inside (Blit area block tx ty o md)) (list_all is_inside ops) e).1
-seen_inside part (Push area o md ∷ ops) zero e =
-    let parts = and_parts (is_inside (Push area o md)) (list_all is_inside ops) e in
-    kept_inside (meets area part) (Push area o md) (seen part zero ops) (seen part (suc zero) ops) parts.0 (seen_inside part ops zero parts.1) (seen_inside part ops (suc zero) parts.1)
+seen_inside part (Push area o md ∷ ops) zero e = grind (arith, nat_tests, and_parts, seen_inside part ops zero, seen_inside part ops (suc zero))
 seen_inside part (Push area o md ∷ ops) (suc h) e = seen_inside part ops (suc (suc h)) (and_parts (is_inside (Push area o md)) (list_all is_inside ops) e).1
-seen_inside part (Pop ∷ ops) zero e =
-    let parts = and_parts (is_inside Pop) (list_all is_inside ops) e in
-    kept_inside true Pop (seen part zero ops) [] parts.0 (seen_inside part ops zero parts.1) refl
+seen_inside part (Pop ∷ ops) zero e = grind (arith, nat_tests, and_parts, seen_inside part ops zero)
 seen_inside part (Pop ∷ ops) (suc h) e = seen_inside part ops h (and_parts (is_inside Pop) (list_all is_inside ops) e).1
 
 pub seen_whole : (part : Rectangle) (ops : List Op) → is_whole ops ≡ true → is_whole (seen part zero ops) ≡ true
 unfolding is_whole
-seen_whole part ops e =
-    let parts = and_parts (is_nested 0 ops) (list_all is_inside ops) e in
-    ap (λ t. t && list_all is_inside (seen part zero ops)) (seen_nested part ops 0 0 zero refl parts.0) ∙ seen_inside part ops zero parts.1
-
-kept_deep : (t : Bool) (m k : ℕ) (xs ys : List Op) → deepest m xs ≤ k → deepest m ys ≤ k → deepest m (if t then xs else ys) ≤ k
-kept_deep true m k xs ys h h' = h
-kept_deep false m k xs ys h h' = h'
+seen_whole part ops e = grind (arith, nat_tests, and_parts (is_nested 0 ops) (list_all is_inside ops) e, seen_nested part ops 0 0 zero refl, seen_inside part ops zero)
 
 seen_deep : (part : Rectangle) (ops : List Op) (n m h : ℕ) → n ≡ m + h → deepest m (seen part h ops) ≤ deepest n ops
 unfolding seen deepest
 seen_deep part [] n m h sum = omega (arith, sum)
-seen_deep part (Fill area c o md ∷ ops) n m zero sum =
-    let rest = seen_deep part ops n m zero sum in
-    kept_deep (meets area part) m (deepest n ops) (Fill area c o md ∷ seen part zero ops) (seen part zero ops) rest rest
+seen_deep part (Fill area c o md ∷ ops) n m zero sum = grind (arith, nat_tests, seen_deep part ops n m zero sum)
 seen_deep part (Fill area c o md ∷ ops) n m (suc h) sum = seen_deep part ops n m (suc h) sum
-seen_deep part (Blit area block tx ty o md ∷ ops) n m zero sum =
-    let rest = seen_deep part ops n m zero sum in
-    kept_deep (meets area part) m (deepest n ops) (Blit area block tx ty o md ∷ seen part zero ops) (seen part zero ops) rest rest
+seen_deep part (Blit area block tx ty o md ∷ ops) n m zero sum = grind (arith, nat_tests, seen_deep part ops n m zero sum)
 seen_deep part (Blit area block tx ty o md ∷ ops) n m (suc h) sum = seen_deep part ops n m (suc h) sum
-seen_deep part (Push area o md ∷ ops) n m zero sum =
-    kept_deep (meets area part) m (deepest (n + 1) ops) (Push area o md ∷ seen part zero ops) (seen part (suc zero) ops)
-    (seen_deep part ops (n + 1) (m + 1) zero (omega (arith, sum))) (seen_deep part ops (n + 1) m (suc zero) (omega (arith, sum)))
+seen_deep part (Push area o md ∷ ops) n m zero sum = grind (arith, nat_tests, seen_deep part ops)
 seen_deep part (Push area o md ∷ ops) n m (suc h) sum = seen_deep part ops (n + 1) m (suc (suc h)) (omega (arith, sum))
-seen_deep part (Pop ∷ ops) n m zero sum =
-    let rest = seen_deep part ops (n - 1) (m - 1) zero (omega (arith, sum)) in omega (arith, rest, sum)
-seen_deep part (Pop ∷ ops) n m (suc h) sum =
-    let rest = seen_deep part ops (n - 1) m h (omega (arith, sum)) in omega (arith, rest, sum)
+seen_deep part (Pop ∷ ops) n m zero sum = grind (arith, nat_tests, seen_deep part ops)
+seen_deep part (Pop ∷ ops) n m (suc h) sum = grind (arith, nat_tests, seen_deep part ops)
 
 pub seen_deepest : (part : Rectangle) (ops : List Op) → deepest 0 (seen part zero ops) ≤ deepest 0 ops
 seen_deepest part ops = seen_deep part ops 0 0 zero refl
@@ -215,12 +143,7 @@ seen_deepest part ops = seen_deep part ops 0 0 zero refl
 -- Operation by operation
 
 some_open : (n : ℕ) → (suc n == 0) ≡ false
-some_open n = by_test (suc n == 0) refl
-  where
-    by_test : (t : Bool) → (suc n == 0) ≡ t → (suc n == 0) ≡ false
-    by_test true e =
-        let no_one = eqb-true (suc n) 0 e in absurd (omega (arith, no_one))
-    by_test false e = e
+some_open n = grind (arith, nat_tests, eqb-true (suc n) 0)
 
 behind : (n : ℕ) (u t : Bool) → t ≡ ((suc n == 0) && u) → t ≡ false
 behind n u t e = e ∙ ap (λ b. b && u) (some_open n)
@@ -235,29 +158,18 @@ pub blit_fate : (part : Rectangle) (n : ℕ) (op : Op) (area : Rectangle) (block
     → (rest : List Op) → seen part n (op ∷ rest) ≡ (if t then op ∷ seen part n rest else seen part n rest)
 unfolding seen
 blit_fate part zero op area block tx ty o m t is e rest = rw (is, e) refl
-blit_fate part (suc n) op area block tx ty o m t is e rest =
-    rw is (ap (λ b. if b then Blit area block tx ty o m ∷ seen part (suc n) rest else seen part (suc n) rest) (sym (behind n (meets area part) t e)))
+blit_fate part (suc n) op area block tx ty o m t is e rest = grind (arith, nat_tests, behind n (meets area part) t e)
 
 pub push_fate : (part : Rectangle) (n : ℕ) (op : Op) (area : Rectangle) (o : ℕ) (m : _) (t s : Bool) (h : ℕ) → op ≡ Push area o m → t ≡ ((n == 0) && meets area part) → s ≡ t → h ≡ (if t then n else n + 1)
     → (rest : List Op) → seen part n (op ∷ rest) ≡ (if s then op ∷ seen part h rest else seen part h rest)
 unfolding seen
-push_fate part zero op area o m t s h is e f g rest = rw (is, f, g) (by_test (meets area part) t e)
-  where
-    by_test : (u t : Bool) → t ≡ (true && u) → (if u then Push area o m ∷ seen part zero rest else seen part (suc zero) rest) ≡ (if t then Push area o m ∷ seen part (if t then zero else zero + 1) rest else seen part (if t then zero else zero + 1) rest)
-    by_test u true e = ap (λ b. if b then Push area o m ∷ seen part zero rest else seen part (suc zero) rest) (sym e)
-    by_test u false e = ap (λ b. if b then Push area o m ∷ seen part zero rest else seen part (suc zero) rest) (sym e)
-push_fate part (suc n) op area o m t s h is e f g rest =
-    let none = behind n (meets area part) t e in
-    let next : suc (suc n) ≡ suc n + 1 = omega arith in
-    rw (is, f, g) (ap (λ k. seen part k rest) next ∙ ap (λ b. if b then Push area o m ∷ seen part (if b then suc n else suc n + 1) rest else seen part (if b then suc n else suc n + 1) rest) (sym none))
+push_fate part zero op area o m t s h is e f g rest = grind (arith, nat_tests)
+push_fate part (suc n) op area o m t s h is e f g rest = grind (arith, nat_tests, behind n (meets area part) t e)
 
 pub pop_fate : (part : Rectangle) (n : ℕ) (op : Op) (s : Bool) (h : ℕ) → op ≡ Pop → s ≡ (n == 0) → h ≡ (if n == 0 then n else n - 1)
     → (rest : List Op) → seen part n (op ∷ rest) ≡ (if s then op ∷ seen part h rest else seen part h rest)
 unfolding seen
-pop_fate part zero op s h is f g rest = rw (is, f, g) refl
-pop_fate part (suc n) op s h is f g rest =
-    let less : n ≡ suc n - 1 = omega arith in
-    rw (is, f, g) (ap (λ k. seen part k rest) less ∙ ap (λ b. if b then Pop ∷ seen part (if b then suc n else suc n - 1) rest else seen part (if b then suc n else suc n - 1) rest) (sym (some_open n)))
+pop_fate part n op s h is f g rest = grind (arith, nat_tests, some_open n)
 
 pub all_chosen : (part : Rectangle) (n : ℕ) (chosen all rest : List Op) → rest ≡ [] → (chosen ++ seen part n rest) ≡ all → chosen ≡ all
 unfolding seen

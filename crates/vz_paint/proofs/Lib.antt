@@ -1,7 +1,7 @@
 pub mod Spanned
 pub mod Blitted
 pub mod Stacked
-pub mod Drawing
+pub mod Drawn
 pub mod Chosen
 pub mod Painted
 pub mod Banded
@@ -9,5 +9,6 @@ pub mod Grounded
 pub mod Opaque_texels
 mod Brushing
 mod Redrawn
-mod Flatly
+mod Patches
+mod Grouped
 mod Bands_drawn

@@ -1,27 +1,19 @@
 -- A row of colours is the part of a picture in the row of an area.
-use Rattle.std.proofs.Common.{◌≡◌, ℕ, zero, suc, ◌+◌, ◌*◌, ◌≤◌, ◌<◌, pos, nat_abs, ◌+ℤ◌, ◌≤ℤ◌, Bool, true, false, List, length, take, drop, map, get_or, refl, sym, ap, ◌∙◌, subst, mul_comm, arith}
-use Rattle.std.proofs.lemmas.Int.{ints}
+use Rattle.std.proofs.Common.{◌≡◌, ℕ, zero, suc, ◌+◌, ◌*◌, ◌≤◌, ◌<◌, pos, nat_abs, ◌+ℤ◌, ◌≤ℤ◌, false, List, length, take, drop, map, get_or, refl, sym, ap, ◌∙◌, mul_comm, arith}
+use Rattle.std.proofs.{lemmas.Int.ints, Math.Nat.mul-le-mul_right}
 use Rattle.std.specs.List.{range_with_len}
-use Rattle.std.proofs.lemmas.List.FromFn.{length-map-range_with_len, get_or-map-range_with_len}
+use Rattle.std.proofs.{lemmas.List.FromFn.length-map-range_with_len, lemmas.List.FromFn.get_or-map-range_with_len, lemmas.Bool.Decides.nat_tests}
 use Rattle.std.proofs.lemmas.List.{ext_get_or, length-map, get_or-take, get_or-drop, length-take-le, length-drop}
-use Rattle.std.proofs.Math.Nat.{mul-le-mul_right}
-use Rattle.vz_geom.specs.declared.Point.{Point}
-use Rattle.vz_geom.specs.declared.Size.{Size}
+use Rattle.vz_geom.specs.{declared.Point.Point, declared.Size.Size, Display.IsDisplaySize}
 use Rattle.vz_geom.specs.Rectangle.{Rectangle, IsRectangle, points_of, sized, area_of, is_empty_rect}
-use Rattle.vz_geom.specs.Display.{IsDisplaySize}
 use Rattle.vz_pixels.specs.Colour.{Colour, transparent}
-use Rattle.vz_buffers.specs.Canvas.{pixel_count, pixel_place, span_put}
+use Rattle.vz_buffers.specs.{Canvas.pixel_count, Canvas.pixel_place, Canvas.span_put, Bands.rows_put}
 use Rattle.vz_rules.specs.Frames.{patched}
-use Rattle.vz_buffers.specs.Bands.{rows_put}
 use Rattle.vz_machine.specs.Pictured.{IsInside, row_of, first_rows}
-use Rattle.vz_machine.proofs.Whole.{nothing_counted}
-use Rattle.vz_machine.proofs.Points.{point, points_at, length_points, map_at}
-use Rattle.vz_machine.proofs.Spans.{place_fits, row_painted}
-use Rattle.vz_machine.proofs.Rows.{rows_begin, rows_step, rows_long}
-use Rattle.vz_flat.specs.declared.op.Op.{Op}
-use Rattle.vz_flat.specs.Ops.{value}
-use Rattle.vz_paint.specs.Row.{right_of, place_in}
-use Rattle.vz_paint.specs.Strips.{strip_of}
+use Rattle.vz_machine.proofs.{Whole.nothing_counted, Spans.place_fits, Spans.row_painted}
+use Rattle.vz_machine.proofs.{Points.point, Points.points_at, Points.length_points, Points.map_at, Rows.rows_begin, Rows.rows_step, Rows.rows_long}
+use Rattle.vz_flat.specs.{declared.op.Op.Op, Ops.value}
+use Rattle.vz_paint.specs.{Row.right_of, Row.place_in, Strips.strip_of}
 
 -- a colour for each point of a display
 pub all_points : (size : Size) (colour : Point → Colour) → length (map colour (points_of size)) ≡ pixel_count size
@@ -117,10 +109,4 @@ rows_painted size area (suc k) ops ground colour olds sides inside few all same 
 
 -- an area that is worth a second thread has a point
 pub full_area : (area : Rectangle) (threads pixels : ℕ) → IsRectangle area → 1 ≤ threads → (threads ≡ 1 → ⊥) → (1 < threads → 1 ≤ pixels) → pixels ≡ area_of area → is_empty_rect area ≡ false
-full_area area threads pixels is some more worth many =
-    let two : 1 < threads = omega (arith, some, more) in
-    not_empty (is_empty_rect area) (area_of area) (λ e. nothing_counted area is e) (subst (λ n. 1 ≤ n) many (worth two))
-  where
-    not_empty : (t : Bool) (n : ℕ) → (t ≡ true → 0 ≡ n) → 1 ≤ n → t ≡ false
-    not_empty true n none full = absurd (let gone = none refl in omega (arith, gone, full))
-    not_empty false n none full = refl
+full_area area threads pixels is some more worth many = grind (arith, nat_tests, nothing_counted area is)

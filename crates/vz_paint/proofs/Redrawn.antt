@@ -1,38 +1,27 @@
 -- Columns of some rows that are drawn again, row after row.
 use Rattle.std.proofs.Common.{◌≡◌, ℕ, zero, suc, ◌+◌, ◌-◌, ◌*◌, ◌≤◌, ◌<◌, Bool, true, false, ◌&&◌, List, ◌++◌, length, take, drop, get_or, refl, sym, ap, ◌∙◌, subst, append_assoc, take-append-drop, arith}
 use Rattle.std.specs.Prelude.{nat_le, nat_lt}
-use Rattle.std.proofs.lemmas.Bool.{ltb-true, ltb-false, leb-true}
-use Rattle.std.proofs.Math.Nat.{mul-le-mul_right}
+use Rattle.std.proofs.{lemmas.Bool.ltb-true, lemmas.Bool.ltb-false, lemmas.Bool.leb-true, Math.Seq.take-append_seam, Math.Seq.drop-append_seam}
+use Rattle.std.proofs.{Math.Nat.mul-le-mul_right, lemmas.Bool.Decides.nat_tests}
 use Rattle.std.proofs.lemmas.List.{ext_get_or, length-take-le, length-drop, length-append}
-use Rattle.std.proofs.Math.Seq.{take-append_seam, drop-append_seam}
 use borrow.Rule.Slice.PartMut.{put_mid}
 use Rattle.vz_pixels.specs.Colour.{Colour, transparent}
 use Rattle.vz_frame.proofs.Parts.{below_part, in_part, behind_part, length_replaced}
-use Rattle.vz_buffers.specs.Bands.{rows_put, rows_from}
-use Rattle.vz_buffers.specs.Canvas.{span_put}
+use Rattle.vz_buffers.specs.{Bands.rows_put, Bands.rows_from, Canvas.span_put}
 use Rattle.vz_buffers.proofs.Banding.{length_rows, rows_front, rows_both, put_in_place}
 use Rattle.vz_paint.specs.Redraw.{IsOutside, IsRedrawn}
 
 -- the places of a row above are in front of any part of a row
 row_above : (width left wide r k i from : ℕ) → left + wide ≤ width → r < k → i < wide → (r * width + left) + i < (k * width + left) + from
-row_above width left wide r k i from inside low near =
-    let upto : (r + 1) * width ≤ k * width = mul-le-mul_right width (omega (arith, low)) in
-    let next : (r + 1) * width ≡ r * width + width = grind arith in
-    omega (arith, inside, near, upto, next)
+row_above width left wide r k i from inside low near = grind (arith, nat_tests, mul-le-mul_right)
 
 -- and those of a row below are behind it
 row_under : (width left wide r k i to : ℕ) → left + wide ≤ width → k < r → to ≤ wide → (k * width + left) + to ≤ (r * width + left) + i
-row_under width left wide r k i to inside low near =
-    let upto : (k + 1) * width ≤ r * width = mul-le-mul_right width (omega (arith, low)) in
-    let next : (k + 1) * width ≡ k * width + width = grind arith in
-    omega (arith, inside, near, upto, next)
+row_under width left wide r k i to inside low near = grind (arith, nat_tests, mul-le-mul_right)
 
 -- a part of a row is in the pixels
 pub part_fits : (width left wide k count to long : ℕ) → left + wide ≤ width → k < count → to ≤ wide → long ≡ count * width → (k * width + left) + to ≤ long
-part_fits width left wide k count to long inside low near all =
-    let upto : (k + 1) * width ≤ count * width = mul-le-mul_right width (omega (arith, low)) in
-    let next : (k + 1) * width ≡ k * width + width = grind arith in
-    omega (arith, inside, near, upto, next, all)
+part_fits width left wide k count to long inside low near all = grind (arith, nat_tests, mul-le-mul_right)
 
 -- rows up to one are changed, and no others; those above the first one change to what they are
 pub record IsUpto (width left wide count first k : ℕ) (f : ℕ → ℕ → Colour → Colour) (before now : List Colour) : Type 0 where
@@ -43,55 +32,21 @@ pub record IsUpto (width left wide count first k : ℕ) (f : ℕ → ℕ → Col
   pub rest : (j : ℕ) → IsOutside width left wide count j → get_or now j transparent ≡ get_or before j transparent
 
 pub rows_begin : (width left wide count first : ℕ) (f : ℕ → ℕ → Colour → Colour) (before : List Colour) → ((r i : ℕ) → r < first → i < wide → (d : Colour) → f r i d ≡ d) → IsUpto width left wide count first first f before before
-rows_begin width left wide count first f before none =
-    record {
-      least = omega arith;
-      long = refl;
-      done = λ r i inside low near. sym (none r i low near (get_or before ((r * width + left) + i) transparent));
-      kept = λ r i inside low near. refl;
-      rest = λ j out. refl;
-    }
+rows_begin width left wide count first f before none = grind (arith, nat_tests)
 
 module _ (width left wide count first k from to a b : ℕ) (f : ℕ → ℕ → Colour → Colour) (before now mid : List Colour) (is : IsUpto width left wide count first k f before now) (low : k < count) (up : from ≤ to) (most : to ≤ wide) (inside : left + wide ≤ width) (all : length before ≡ count * width) (a_is : a ≡ (k * width + left) + from) (b_is : b ≡ (k * width + left) + to) (long : length mid ≡ b - a) (drawn : (i : ℕ) → from ≤ i → i < to → get_or mid (i - from) transparent ≡ f k i (get_or now ((k * width + left) + i) transparent)) (none : (i : ℕ) → i < wide → (nat_le from i && nat_lt i to) ≡ false → (d : Colour) → f k i d ≡ d) where
   end_fits : b ≤ length now
-  end_fits =
-      let e = part_fits width left wide k count to (length before) inside low most all in
-      let l = is.long in
-      omega (arith, e, l, b_is)
+  end_fits = grind (arith, nat_tests, part_fits width left wide k count to (length before) inside low most all)
 
   in_front : (j : ℕ) → j < a → get_or (put_mid a (b - a) now mid) j transparent ≡ get_or now j transparent
-  in_front j less =
-      let e = end_fits in below_part transparent a (b - a) now mid j (omega (arith, e, a_is, b_is, up)) less
+  in_front j less = grind (arith, nat_tests, end_fits, below_part transparent a (b - a) now mid j)
 
   behind : (j : ℕ) → b ≤ j → get_or (put_mid a (b - a) now mid) j transparent ≡ get_or now j transparent
-  behind j more =
-      let e = end_fits in behind_part transparent a (b - a) now mid j (omega (arith, e, a_is, b_is, up)) long (omega (arith, more, a_is, b_is, up))
+  behind j more = grind (arith, nat_tests, end_fits, behind_part transparent a (b - a) now mid j)
 
   -- a place of the row at hand
   in_row : (i : ℕ) → i < wide → get_or (put_mid a (b - a) now mid) ((k * width + left) + i) transparent ≡ f k i (get_or before ((k * width + left) + i) transparent)
-  in_row i near = by_tests (nat_le from i) (nat_lt i to) refl refl
-    where
-      was : get_or now ((k * width + left) + i) transparent ≡ get_or before ((k * width + left) + i) transparent
-      was = is.kept k i low (omega arith) near
-
-      less : (c d : ℕ) → nat_le c d ≡ false → d < c
-      less c d e = grind (arith, e)
-
-      by_tests : (t u : Bool) → nat_le from i ≡ t → nat_lt i to ≡ u → get_or (put_mid a (b - a) now mid) ((k * width + left) + i) transparent ≡ f k i (get_or before ((k * width + left) + i) transparent)
-      by_tests true true e g =
-          let least = leb-true from i e in
-          let under = ltb-true i to g in
-          let fits = end_fits in
-          let place : ((k * width + left) + i) - a ≡ i - from = omega (arith, a_is, least) in
-          in_part transparent a (b - a) now mid ((k * width + left) + i) (omega (arith, fits, a_is, b_is, up)) long (omega (arith, a_is, least)) (omega (arith, a_is, b_is, under, up))
-          ∙ (ap (λ n. get_or mid n transparent) place ∙ (drawn i least under ∙ ap (f k i) was))
-      by_tests true false e g =
-          let past = ltb-false i to g in
-          behind ((k * width + left) + i) (omega (arith, b_is, past)) ∙ (was ∙ sym (none i near (ap (λ t. t && nat_lt i to) e ∙ g) (get_or before ((k * width + left) + i) transparent)))
-      by_tests false u e g =
-          let before_it = less from i e in
-          in_front ((k * width + left) + i) (omega (arith, a_is, before_it))
-          ∙ (was ∙ sym (none i near (ap (λ t. t && nat_lt i to) e) (get_or before ((k * width + left) + i) transparent)))
+  in_row i near = grind (arith, nat_tests, leb-true, end_fits, in_part, ltb-false, behind, in_front)
 
   outside : (j : ℕ) → IsOutside width left wide count j → get_or (put_mid a (b - a) now mid) j transparent ≡ get_or now j transparent
   outside j out = by_tests (nat_lt j a) (nat_lt j b) refl refl
@@ -128,13 +83,7 @@ module _ (width left wide count first k from to a b : ℕ) (f : ℕ → ℕ → 
 
 pub rows_end : (width left wide count first k : ℕ) (f : ℕ → ℕ → Colour → Colour) (before now : List Colour) → IsUpto width left wide count first k f before now → ((r i : ℕ) → r < count → k ≤ r → i < wide → (d : Colour) → f r i d ≡ d)
     → IsRedrawn width left wide count f before now
-rows_end width left wide count first k f before now is none = record { long = is.long; each = λ r i low near. by_test r i low near (nat_lt r k) refl; rest = is.rest }
-  where
-    by_test : (r i : ℕ) → r < count → i < wide → (t : Bool) → nat_lt r k ≡ t → get_or now ((r * width + left) + i) transparent ≡ f r i (get_or before ((r * width + left) + i) transparent)
-    by_test r i low near true e = is.done r i low (ltb-true r k e) near
-    by_test r i low near false e =
-        let more = ltb-false r k e in
-        is.kept r i low more near ∙ sym (none r i low more near (get_or before ((r * width + left) + i) transparent))
+rows_end width left wide count first k f before now is none = grind (arith, nat_tests, ltb-false)
 
 -- nothing was changed
 pub unchanged : (width left wide count : ℕ) (f : ℕ → ℕ → Colour → Colour) (before : List Colour) → ((r i : ℕ) → r < count → i < wide → (d : Colour) → f r i d ≡ d) → IsRedrawn width left wide count f before before
@@ -143,8 +92,7 @@ unchanged width left wide count f before none = record { long = refl; each = λ 
 -- pixels that are those of rows in their places, and the old ones in all others
 module _ (width left wide count : ℕ) (row : ℕ → List Colour) (before now : List Colour) (same : (k : ℕ) → length (row k) ≡ wide) (inside : left + wide ≤ width) (all : length before ≡ count * width) (each : (r i : ℕ) → r < count → i < wide → get_or now ((r * width + left) + i) transparent ≡ get_or (row r) i transparent) (rest : (j : ℕ) → IsOutside width left wide count j → get_or now j transparent ≡ get_or before j transparent) where
   shorter : (k : ℕ) → k ≤ count → k * width ≤ length before
-  shorter k few =
-      let e : k * width ≤ count * width = mul-le-mul_right width few in omega (arith, e, all)
+  shorter k few = grind (arith, nat_tests, mul-le-mul_right width few)
 
   up_to : (k : ℕ) → k ≤ count → (j : ℕ) → ((r i : ℕ) → k ≤ r → r < count → i < wide → j ≡ (r * width + left) + i → ⊥) → get_or (rows_put width left row k before) j transparent ≡ get_or now j transparent
   unfolding rows_put
@@ -217,9 +165,7 @@ module _ (width left wide count : ℕ) (row : ℕ → List Colour) (before now :
           ∙ (sym (each k (j - a) low (omega (arith, under, least))) ∙ ap (λ n. get_or now n transparent) place))
 
   pub put_all : length now ≡ length before → now ≡ rows_put width left row count before
-  put_all long =
-      ext_get_or transparent now (rows_put width left row count before) (long ∙ sym (length_rows width left wide count row before same inside (shorter count (omega arith))))
-      (λ j low. sym (up_to count (omega arith) j (λ r i at_least r_low near is. absurd (omega (arith, at_least, r_low)))))
+  put_all long = grind (arith, nat_tests, ext_get_or transparent now (rows_put width left row count before), length_rows width left wide count row before same inside, shorter count, up_to count)
 
 -- a band more is put into the pixels
 pub band_put : (width left wide d n count a b : ℕ) (row : ℕ → List Colour) (before px new : List Colour) → ((k : ℕ) → length (row k) ≡ wide) → left + wide ≤ width → length before ≡ count * width → d + n ≤ count → px ≡ rows_put width left row d before

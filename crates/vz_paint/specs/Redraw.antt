@@ -10,6 +10,7 @@ use Rattle.vz_rules.specs.Paint.{texel_of}
 use Rattle.vz_flat.specs.declared.op.Op.{Op}
 use Rattle.vz_flat.specs.declared.op.Op.TheVariants.{Fill, Blit, Push, Pop}
 use Rattle.vz_flat.specs.Ops.{value}
+use Rattle.vz_paint.specs.declared.group.OpenGroup.{OpenGroup}
 use Rattle.vz_paint.specs.Row.{IsStart}
 
 -- the point that is so many rows below and so many columns right of another
@@ -44,6 +45,10 @@ step_of start (Blit area block tx ty o m) r i d =
     if has area (point_of start r i) then laid m (texel_of (Some block) (plus (minus (point_of start r i) (corner area)) (record { x = tx; y = ty }))) o d else d
 step_of start (Push area o m) r i d = d
 step_of start Pop r i d = d
+
+-- what the rows of a group do to the colour in a row and a column from a point on
+abbrev pub lays : Point → ℕ → OpenGroup → ℕ → ℕ → Colour → Colour
+lays start wide g r i d = if has g.area (point_of start r i) then laid g.mode (get_or g.pixels.items (r * wide + i) transparent) g.opacity d else d
 
 -- the rows that operations make of a colour, from a point on
 abbrev pub rows_of : List Op → Colour → Point → ℕ → ℕ → List Colour

@@ -1,5 +1,5 @@
 -- The rows that operations draw on an area.
-use Rattle.std.specs.Prelude.{◌≡◌, pos, nat_abs, ◌+ℤ◌, ◌≤ℤ◌, ◌≤◌, true, List, length, map}
+use Rattle.std.specs.Prelude.{◌≡◌, pos, nat_abs, ◌+ℤ◌, ◌≤ℤ◌, ◌≤◌, ◌<◌, ◌*◌, ℕ, true, List, length, map}
 use Rattle.std.specs.List.{range_with_len}
 use Rattle.vz_base.specs.declared.limits.TheConstants.{GREATEST_DISPLAY_SIDE}
 use Rattle.vz_geom.specs.Rectangle.{Rectangle, points_of}
@@ -11,7 +11,7 @@ use Rattle.vz_flat.specs.declared.op.Op.{Op}
 use Rattle.vz_flat.specs.Ops.{value, is_whole, deepest}
 use Rattle.vz_paint.specs.declared.group.OpenGroup.{OpenGroup}
 use Rattle.vz_paint.specs.Row.{place_in}
-use Rattle.vz_paint.specs.Stack.{AreRows}
+use Rattle.vz_paint.specs.Stack.{HavePixels}
 
 -- an area with points, all of them on a display
 pub record IsArea (area : Rectangle) : Type 0 where
@@ -27,13 +27,14 @@ abbrev pub strip_of : List Op → Colour → Rectangle → Strip
 strip_of ops base area =
     record { high = nat_abs area.h; row = λ k. map (λ i. value ops (place_in area i k) base) (range_with_len 0 (nat_abs area.w)) }
 
--- what is needed to draw the rows: valid operations, and a row for each group that they have open
--- at once
-pub record IsBrush (ops : List Op) (area : Rectangle) (groups : List OpenGroup) : Type 0 where
+-- what is needed to draw the rows, at most so many at once: valid operations, and these rows of each
+-- group that they have open at once
+pub record IsBrush (ops : List Op) (area : Rectangle) (rows : ℕ) (groups : List OpenGroup) : Type 0 where
   pub stands : IsArea area
   pub whole : is_whole ops ≡ true
+  pub some : 0 < rows
   pub room : deepest 0 ops ≤ length groups
-  pub rows : AreRows (nat_abs area.w) groups
+  pub pixels : HavePixels (rows * nat_abs area.w) groups
 
 -- an area of a buffer has the colours that operations give on opaque black, and what is outside
 -- stays

@@ -4,12 +4,12 @@ ghost use Rattle.std.specs.List.{All};
 ghost use Rattle.vz_base.specs.declared.limits.TheConstants.{GREATEST_DISPLAY_SIDE};
 ghost use Rattle.vz_buffers.specs.Bands.{FitsIn, rows_put, rows_from};
 ghost use Rattle.vz_flat.specs.Ops.{is_whole, deepest};
-ghost use Rattle.vz_paint.specs.Stack.{AreRows};
+ghost use Rattle.vz_paint.specs.Stack.{HavePixels};
 ghost use Rattle.vz_paint.specs.Strips.{IsArea, IsBrush, strip_of};
 
+use crate::drawing::draw_all;
 use crate::group::OpenGroup;
-use crate::row::draw_row;
-use crate::rows::{Lines, draw_flat, place};
+use crate::rows::{Lines, place};
 use std::alloc::Global;
 use vz_base::Memory;
 use vz_buffers::RowPainter;
@@ -26,11 +26,13 @@ pub(crate) struct Sheet {
     pub(crate) deepest: u32,
 }
 
-/// Draws the rows of an area. It has a row of its own for each group that may be open at once.
+/// Draws the rows of an area, at most `rows` at once. It has pixels for these of each group that
+/// may be open at once.
 #[derive(Drop)]
 pub(crate) struct Brush<'a, 'b> {
     pub(crate) ops: &'b [&'a Op],
     pub(crate) sheet: Sheet,
+    pub(crate) rows: usize,
     pub(crate) groups: Vec<OpenGroup>,
 }
 
@@ -48,89 +50,42 @@ impl<'a, 'b> Brush<'a, 'b> {
         ensures ops { IfOk result (λ b. b.ops.now ≡ ops.now) }
         ensures sheet { IfOk result (λ b. b.sheet ≡ sheet) }
         ensures able { IfOk result (λ b. IsBrush (map (λ r. r.now) b.ops.now) b.sheet.area
-            b.groups.items) }
+            b.rows b.groups.items) }
     {
-        let groups = group_rows(alloc, sheet.deepest, width(&sheet.area))?;
-        Ok(Brush { ops, sheet, groups })
+        let wide = width(&sheet.area);
+        let rows = least(height(&sheet.area), rows_at_once(wide, sheet.deepest));
+        let groups = open_groups(alloc, sheet.deepest, rows * wide)?;
+        Ok(Brush {
+            ops,
+            sheet,
+            rows,
+            groups,
+        })
     }
 
-    /// Draws a row of the area into these pixels, whatever they are before.
-    fn draw_one(&mut self, row: u32, into: &mut [Pixel])
+    /// Draws rows of the area: one operation after the other, each in as many rows as stay in the
+    /// fastest memory.
+    fn draw_lines(&mut self, from: u32, lines: Lines, pixels: &mut [Pixel])
         requires able { IsBrush (map (λ r. r.now) self.old.ops.now) self.old.sheet.area
-            self.old.groups.items }
-        requires inside { row < nat_abs self.old.sheet.area.h }
-        requires wide { length into.old ≡ nat_abs self.old.sheet.area.w }
-        ensures able { IsBrush (map (λ r. r.now) self.new.ops.now) self.new.sheet.area
-            self.new.groups.items }
-        ensures ops { self.new.ops.now ≡ self.old.ops.now }
-        ensures sheet { self.new.sheet ≡ self.old.sheet }
-        ensures drawn { into.new ≡ (strip_of (map (λ r. r.now) self.old.ops.now)
-            self.old.sheet.ground self.old.sheet.area).row row }
-    {
-        let start = row_start(&self.sheet.area, row);
-        draw_row(
-            self.ops,
-            self.sheet.ground,
-            start,
-            into,
-            self.groups.as_mut_slice(),
-        );
-    }
-
-    /// Draws rows of the area one after the other: all operations in each. The conditions are
-    /// those of `draw_rows`.
-    fn draw_by_row(
-        &mut self,
-        from: u32,
-        count: u32,
-        width: usize,
-        left: usize,
-        wide: usize,
-        pixels: &mut [Pixel],
-    )
-        requires able { IsBrush (map (λ r. r.now) self.old.ops.now) self.old.sheet.area
-            self.old.groups.items }
-        requires fits { FitsIn width left wide (strip_of (map (λ r. r.now) self.old.ops.now)
-            self.old.sheet.ground self.old.sheet.area) }
-        requires upto { (from + count) ≤ nat_abs self.old.sheet.area.h }
-        requires small { width ≤ GREATEST_DISPLAY_SIDE }
-        requires few { (from + count) ≤ GREATEST_DISPLAY_SIDE }
-        requires pixels { length pixels.old ≡ count * width }
-        ensures able { IsBrush (map (λ r. r.now) self.new.ops.now) self.new.sheet.area
-            self.new.groups.items }
-        ensures ops { self.new.ops.now ≡ self.old.ops.now }
-        ensures sheet { self.new.sheet ≡ self.old.sheet }
-        ensures painted { pixels.new ≡ rows_put width left
-            (rows_from from (strip_of (map (λ r. r.now) self.old.ops.now)
-            self.old.sheet.ground self.old.sheet.area).row) count pixels.old }
-    {
-        for k in 0..count {
-            let at = place(width, left, k as usize);
-            self.draw_one(from + k, &mut pixels[at..at + wide]);
-        }
-    }
-
-    /// Draws rows of the area one operation after the other, each in as many rows as stay in the
-    /// fastest memory. Condition: no operation is in a group.
-    fn draw_by_operation(&self, from: u32, lines: Lines, pixels: &mut [Pixel])
-        requires area { IsArea self.now.sheet.area }
-        requires whole { is_whole (map (λ r. r.now) self.now.ops.now) ≡ true }
-        requires flat { deepest 0 (map (λ r. r.now) self.now.ops.now) ≤ 0 }
+            self.old.rows self.old.groups.items }
         requires fits { FitsIn lines.width lines.left lines.wide
-            (strip_of (map (λ r. r.now) self.now.ops.now)
-            self.now.sheet.ground self.now.sheet.area) }
-        requires upto { (from + lines.count) ≤ nat_abs self.now.sheet.area.h }
+            (strip_of (map (λ r. r.now) self.old.ops.now)
+            self.old.sheet.ground self.old.sheet.area) }
+        requires upto { (from + lines.count) ≤ nat_abs self.old.sheet.area.h }
         requires small { lines.width ≤ GREATEST_DISPLAY_SIDE }
         requires few { (from + lines.count) ≤ GREATEST_DISPLAY_SIDE }
         requires pixels { length pixels.old ≡ lines.count * lines.width }
+        ensures able { IsBrush (map (λ r. r.now) self.new.ops.now) self.new.sheet.area
+            self.new.rows self.new.groups.items }
+        ensures ops { self.new.ops.now ≡ self.old.ops.now }
+        ensures sheet { self.new.sheet ≡ self.old.sheet }
         ensures painted { pixels.new ≡ rows_put lines.width lines.left
-            (rows_from from (strip_of (map (λ r. r.now) self.now.ops.now)
-            self.now.sheet.ground self.now.sheet.area).row) lines.count pixels.old }
+            (rows_from from (strip_of (map (λ r. r.now) self.old.ops.now)
+            self.old.sheet.ground self.old.sheet.area).row) lines.count pixels.old }
     {
-        let most = rows_at_once(lines.wide);
         let mut done = 0;
         while done < lines.count {
-            let here = least(lines.count - done, most);
+            let here = least(lines.count - done, self.rows);
             let start = row_start(&self.sheet.area, from + done as u32);
             let upper = place(lines.width, 0, done);
             let lower = place(lines.width, 0, done + here);
@@ -140,11 +95,12 @@ impl<'a, 'b> Brush<'a, 'b> {
                 wide: lines.wide,
                 count: here,
             };
-            draw_flat(
+            draw_all(
                 self.ops,
                 self.sheet.ground,
                 band,
                 start,
+                self.groups.as_mut_slice(),
                 &mut pixels[upper..lower],
             );
             done += here;
@@ -158,7 +114,7 @@ impl<'a, 'b> RowPainter for Brush<'a, 'b> {
 
     ghost strip = { λ b. strip_of (map (λ r. r.now) b.ops.now) b.sheet.ground b.sheet.area };
 
-    ghost able = { λ b. IsBrush (map (λ r. r.now) b.ops.now) b.sheet.area b.groups.items };
+    ghost able = { λ b. IsBrush (map (λ r. r.now) b.ops.now) b.sheet.area b.rows b.groups.items };
 
     fn draw_rows(
         &mut self,
@@ -169,17 +125,13 @@ impl<'a, 'b> RowPainter for Brush<'a, 'b> {
         wide: usize,
         pixels: &mut [Pixel],
     ) {
-        if self.groups.len() == 0 {
-            let lines = Lines {
-                width,
-                left,
-                wide,
-                count: count as usize,
-            };
-            self.draw_by_operation(from, lines, pixels);
-            return;
-        }
-        self.draw_by_row(from, count, width, left, wide, pixels);
+        let lines = Lines {
+            width,
+            left,
+            wide,
+            count: count as usize,
+        };
+        self.draw_lines(from, lines, pixels);
     }
 }
 
@@ -199,14 +151,17 @@ fn row_start(area: &Rect, below: u32) -> Point
 /// How many pixels are drawn at once, so that they stay in the fastest memory.
 const AT_ONCE: usize = 16384;
 
-/// How many rows of this width are drawn at once: at least one.
-fn rows_at_once(wide: usize) -> usize
-    ensures { 0 < result }
+/// How many rows of this width are drawn at once, with those of so many groups: at least one.
+fn rows_at_once(wide: usize, groups: u32) -> usize
+    requires { wide ≤ GREATEST_DISPLAY_SIDE }
+    ensures some { 0 < result }
+    ensures most { result ≤ AT_ONCE }
 {
-    if wide == 0 || AT_ONCE < wide {
+    let pixels = wide * (groups as usize + 1);
+    if pixels == 0 || AT_ONCE < pixels {
         return 1;
     }
-    AT_ONCE / wide
+    AT_ONCE / pixels
 }
 
 /// The lesser of two numbers.
@@ -214,7 +169,8 @@ fn least(a: usize, b: usize) -> usize
     requires a { 0 < a }
     requires b { 0 < b }
     ensures some { 0 < result }
-    ensures most { result ≤ a }
+    ensures first { result ≤ a }
+    ensures second { result ≤ b }
 {
     if a < b { a } else { b }
 }
@@ -225,6 +181,14 @@ fn width(area: &Rect) -> usize
     ensures value { result ≡ nat_abs area.now.w }
 {
     area.w().unsigned_abs() as usize
+}
+
+/// How many rows an area has.
+fn height(area: &Rect) -> usize
+    requires { pos 1 ≤ℤ area.now.h }
+    ensures value { result ≡ nat_abs area.now.h }
+{
+    area.h().unsigned_abs() as usize
 }
 
 /// The least number of groups for which places are reserved, if there is a group at all.
@@ -241,14 +205,14 @@ pub(crate) fn places(wanted: usize, few: usize) -> usize
     few
 }
 
-/// The rows for `count` groups.
-fn group_rows(alloc: Global, count: u32, width: usize) -> Result<Vec<OpenGroup>, Memory>
+/// `count` groups with so many pixels each. The only error is `Memory`.
+fn open_groups(alloc: Global, count: u32, pixels: usize) -> Result<Vec<OpenGroup>, Memory>
     ensures count { IfOk result (λ v. length v.items ≡ count) }
-    ensures rows { IfOk result (λ v. AreRows width v.items) }
+    ensures pixels { IfOk result (λ v. HavePixels pixels v.items) }
 {
     let mut groups = Vec::with_capacity(alloc, places(count as usize, FEW_GROUPS))?;
     for _ in 0..count {
-        groups.push_reserved(OpenGroup::new(alloc, width)?);
+        groups.push_reserved(OpenGroup::new(alloc, pixels)?);
     }
     Ok(groups)
 }
@@ -265,7 +229,7 @@ pub(crate) fn brushes_for<'a, 'b>(
     requires deepest { deepest 0 (map (λ r. r.now) ops.now) ≤ sheet.deepest }
     ensures count { IfOk result (λ v. length v.items ≡ count) }
     ensures each { IfOk result (λ v. All (λ b. (b.ops.now ≡ ops.now) × (b.sheet ≡ sheet)
-        × IsBrush (map (λ r. r.now) b.ops.now) b.sheet.area b.groups.items) v.items) }
+        × IsBrush (map (λ r. r.now) b.ops.now) b.sheet.area b.rows b.groups.items) v.items) }
 {
     let mut brushes = Vec::with_capacity(alloc, count)?;
     for _ in 0..count {

@@ -1,13 +1,13 @@
-//! The painter: it turns drawing operations into the pixels of a buffer, row by row.
+//! The painter: it turns drawing operations into the pixels of a buffer, operation by operation.
 #![tactic(auto)]
 
 mod alone;
 mod brush;
 mod choice;
+mod drawing;
 mod ground;
 mod group;
 mod painting;
-mod row;
 mod rows;
 mod span;
 

@@ -87,9 +87,9 @@ fn paint_area<L: Ledger, R: Threads + Sync>(
 /// 131,072 pixels, but no more than the processors. If none can be started, the caller's paints
 /// all the same.
 ///
-/// Everything is allocated before the first row: for each thread a row for the area and one for
-/// each group that may be open at once, and a place for each operation. If that fails it returns
-/// `Memory`, and the buffer does not change.
+/// Everything is allocated before the first row: a place for each operation and, for each thread,
+/// pixels for each group that may be open at once (16,384 in all, or a row each if that is more).
+/// If that fails it returns `Memory`, and the buffer does not change.
 pub fn paint<L: Ledger, R: Threads + Sync>(
     rt: &R,
     alloc: Global,

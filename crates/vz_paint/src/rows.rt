@@ -1,15 +1,14 @@
-//! Drawing operations that are in no group in some rows at once.
-ghost use Rattle.std.specs.Prelude.{◌≡◌, ◌+◌, ◌*◌, ◌≤◌, ◌<◌, ◌+ℤ◌, ◌≤ℤ◌, pos, nat_le, nat_lt, ◌&&◌, ℕ, length, map, true, false};
+//! What one operation draws in some rows at once.
+ghost use Rattle.std.specs.Prelude.{◌≡◌, ◌+◌, ◌*◌, ◌≤◌, ◌<◌, ◌+ℤ◌, ◌≤ℤ◌, pos, nat_le, nat_lt, ◌&&◌, ℕ, length, true, false};
 ghost use Rattle.vz_base.specs.declared.limits.TheConstants.{GREATEST_DISPLAY_SIDE};
 ghost use Rattle.vz_geom.specs.Rectangle.{has};
-ghost use Rattle.vz_buffers.specs.Bands.{rows_put};
 ghost use Rattle.vz_flat.specs.declared.op.Op.TheVariants.{Fill, Blit};
-ghost use Rattle.vz_flat.specs.Ops.{is_inside, is_whole, deepest};
+ghost use Rattle.vz_flat.specs.Ops.{is_inside};
 ghost use Rattle.vz_paint.specs.Row.{IsStart};
-ghost use Rattle.vz_paint.specs.Redraw.{point_of, AreLines, IsRedrawn, step_of, rows_of};
+ghost use Rattle.vz_paint.specs.Redraw.{point_of, AreLines, IsRedrawn, step_of, lays};
 
-use crate::row::level;
-use crate::span::{columns_before, print, right_of, shade, texel_at, texels, tint};
+use crate::group::OpenGroup;
+use crate::span::{columns_before, level, mix, print, right_of, shade, texel_at, texels, tint};
 use vz_flat::Op;
 use vz_frame::Blend;
 use vz_geom::{Point, Rect};
@@ -108,7 +107,7 @@ fn patch_of(area: &Rect, start: Point, wide: usize, count: usize) -> Patch
 }
 
 /// Fills rows with one colour.
-fn level_rows(lines: Lines, start: Point, ground: Pixel, pixels: &mut [Pixel])
+pub(crate) fn level_rows(lines: Lines, start: Point, ground: Pixel, pixels: &mut [Pixel])
     requires { AreLines start lines.width lines.left lines.wide lines.count pixels.old }
     ensures { IsRedrawn lines.width lines.left lines.wide lines.count (λ r i d. ground)
         pixels.old pixels.new }
@@ -180,8 +179,28 @@ fn blit_rows(
     }
 }
 
+/// Blends the rows of a group with the pixels of rows inside its area.
+pub(crate) fn lay_rows(lines: Lines, start: Point, group: &OpenGroup, pixels: &mut [Pixel])
+    requires lines { AreLines start lines.width lines.left lines.wide lines.count pixels.old }
+    requires whole { (lines.count * lines.wide) ≤ length group.now.pixels.items }
+    ensures { IsRedrawn lines.width lines.left lines.wide lines.count
+        (lays start lines.wide group.now) pixels.old pixels.new }
+{
+    let here = patch_of(&group.area, start, lines.wide, lines.count);
+    for k in here.top..here.bottom {
+        let own = place(lines.wide, 0, k);
+        let at = place(lines.width, lines.left, k);
+        mix(
+            &mut pixels[at + here.from..at + here.to],
+            &group.pixels[own + here.from..own + here.to],
+            group.opacity,
+            group.mode,
+        );
+    }
+}
+
 /// Draws a `Fill` or a `Blit` in rows.
-fn draw_in_rows(op: &Op, lines: Lines, start: Point, pixels: &mut [Pixel])
+pub(crate) fn draw_in_rows(op: &Op, lines: Lines, start: Point, pixels: &mut [Pixel])
     requires lines { AreLines start lines.width lines.left lines.wide lines.count pixels.old }
     requires inside { is_inside op.now ≡ true }
     ensures { IsRedrawn lines.width lines.left lines.wide lines.count (step_of start op.now)
@@ -204,27 +223,5 @@ fn draw_in_rows(op: &Op, lines: Lines, start: Point, pixels: &mut [Pixel])
         } => blit_rows(lines, start, area, block, tx, ty, *opacity, *blend, pixels),
         Op::Push { .. } => {}
         Op::Pop => {}
-    }
-}
-
-/// Draws operations in rows, on one colour: each in all rows before the next one. Conditions: they
-/// are valid, and none is in a group.
-pub(crate) fn draw_flat(
-    ops: &[&Op],
-    ground: Pixel,
-    lines: Lines,
-    start: Point,
-    pixels: &mut [Pixel],
-)
-    requires lines { AreLines start lines.width lines.left lines.wide lines.count pixels.old }
-    requires whole { is_whole (map (λ r. r.now) ops.now) ≡ true }
-    requires flat { deepest 0 (map (λ r. r.now) ops.now) ≤ 0 }
-    ensures painted { pixels.new ≡ rows_put lines.width lines.left
-        (rows_of (map (λ r. r.now) ops.now) ground start lines.wide) lines.count pixels.old }
-    ensures long { length pixels.new ≡ length pixels.old }
-{
-    level_rows(lines, start, ground, pixels);
-    for op in ops {
-        draw_in_rows(op, lines, start, pixels);
     }
 }

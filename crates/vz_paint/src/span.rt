@@ -1,14 +1,10 @@
-//! The part of a row that an area covers, and colours that are blended there.
-ghost use Rattle.std.specs.Prelude.{true, ◌==◌, ◌-ℤ◌, ◌+◌, ◌*◌, take, drop, ◌≡◌, ◌≤◌, ◌<◌, ◌<ℤ◌, ◌≤ℤ◌, ◌+ℤ◌, pos, int_le, nat_le, nat_lt, ◌&&◌, ℕ, length, map, slice_index_or, if◌then◌else◌, IsTrue, Some};
-ghost use Rattle.vz_base.specs.declared.limits.TheConstants.{GREATEST_DISPLAY_SIDE, GREATEST_BLOCK_SIDE};
-ghost use Rattle.vz_geom.specs.Rectangle.{has, plus, minus, corner};
-ghost use Rattle.vz_pixels.specs.Colour.{transparent, scale};
+//! A part of a row, and colours that are blended there.
+ghost use Rattle.std.specs.Prelude.{◌≡◌, ◌==◌, ◌+◌, ◌*◌, ◌≤◌, ◌<◌, ◌+ℤ◌, ◌-ℤ◌, ◌≤ℤ◌, ◌<ℤ◌, pos, true, length, map, take, drop, replicate};
 ghost use Rattle.std.specs.List.{list_all};
+ghost use Rattle.vz_base.specs.declared.limits.TheConstants.{GREATEST_DISPLAY_SIDE, GREATEST_BLOCK_SIDE};
+ghost use Rattle.vz_pixels.specs.Colour.{scale};
 ghost use Rattle.vz_frame.specs.declared.blend.Blend.TheVariants.{Over};
 ghost use Rattle.vz_frame.specs.Blending.{blend, laid};
-ghost use Rattle.vz_rules.specs.Paint.{texel_of};
-ghost use Rattle.vz_flat.specs.Ops.{is_inside};
-ghost use Rattle.vz_flat.specs.declared.op.Op.TheVariants.{Blit};
 ghost use Rattle.vz_paint.specs.Row.{right_of, IsStart};
 ghost use lib.Lanes.{zip2};
 
@@ -16,13 +12,6 @@ use vz_frame::Blend;
 use vz_geom::{Point, Rect};
 use vz_kernel::{dst_in_fill, dst_in_row, fill_row, over_fill, over_row, src_row};
 use vz_pixels::{Pixel, PixelBlock};
-
-/// The places of a row that an area covers: from `from` up to, but without, `to`.
-#[derive(Clone, Copy)]
-pub(crate) struct Span {
-    from: usize,
-    to: usize,
-}
 
 /// How many of the first `count` columns of a row are left of column `x`.
 pub(crate) fn columns_before(start: Point, x: &i32, count: usize) -> usize
@@ -38,23 +27,11 @@ pub(crate) fn columns_before(start: Point, x: &i32, count: usize) -> usize
     if before < count { before } else { count }
 }
 
-/// The places of a row of `count` pixels that an area covers.
-fn span_of(area: &Rect, start: Point, count: usize) -> Span
-    requires start { IsStart start }
-    ensures ordered { result.from ≤ result.to }
-    ensures most { result.to ≤ count }
-    ensures exact { (i : ℕ) → i < count
-        → has area.now (right_of start i) ≡ (nat_le result.from i && nat_lt i result.to) }
+/// Fills a row with one colour.
+pub(crate) fn level(row: &mut [Pixel], ground: Pixel)
+    ensures { row.new ≡ replicate (length row.old) ground }
 {
-    if area.is_empty() {
-        return Span { from: 0, to: 0 };
-    }
-    if start.y < area.y() || area.bottom() <= start.y {
-        return Span { from: 0, to: 0 };
-    }
-    let from = columns_before(start, &area.x(), count);
-    let to = columns_before(start, &area.right(), count);
-    Span { from, to }
+    row.fill(ground);
 }
 
 /// Blends one colour with each pixel of a row.
@@ -69,7 +46,7 @@ pub(crate) fn tint(row: &mut [Pixel], color: Pixel, mode: Blend)
 }
 
 /// Blends each colour, scaled by an opacity, with the pixel at its place.
-fn mix(row: &mut [Pixel], source: &[Pixel], opacity: u8, mode: Blend)
+pub(crate) fn mix(row: &mut [Pixel], source: &[Pixel], opacity: u8, mode: Blend)
     requires { length row.old ≡ length source.now }
     ensures { row.new ≡ zip2 (λ s d. laid mode s opacity d) source.now row.old }
 {
@@ -88,53 +65,6 @@ pub(crate) fn shade(color: Pixel, opacity: u8) -> Pixel
         return color;
     }
     color.scale(opacity)
-}
-
-/// Blends one colour, scaled by an opacity, with the pixels of a row inside an area.
-pub(crate) fn fill(
-    row: &mut [Pixel],
-    start: Point,
-    area: &Rect,
-    color: Pixel,
-    opacity: u8,
-    mode: Blend,
-)
-    requires start { IsStart start }
-    ensures long { length row.new ≡ length row.old }
-    ensures each { (i : ℕ) → i < length row.old → slice_index_or row.new i transparent
-        ≡ (if has area.now (right_of start i)
-        then laid mode color opacity (slice_index_or row.old i transparent)
-        else slice_index_or row.old i transparent) }
-{
-    let here = span_of(area, start, row.len());
-    tint(&mut row[here.from..here.to], shade(color, opacity), mode);
-}
-
-/// Blends another row, scaled by an opacity, with the pixels of this row inside an area.
-pub(crate) fn lay(
-    row: &mut [Pixel],
-    start: Point,
-    area: &Rect,
-    source: &[Pixel],
-    opacity: u8,
-    mode: Blend,
-)
-    requires start { IsStart start }
-    requires same { length row.old ≡ length source.now }
-    ensures long { length row.new ≡ length row.old }
-    ensures each { (i : ℕ) → i < length row.old → slice_index_or row.new i transparent
-        ≡ (if has area.now (right_of start i)
-        then laid mode (slice_index_or source.now i transparent) opacity
-        (slice_index_or row.old i transparent)
-        else slice_index_or row.old i transparent) }
-{
-    let here = span_of(area, start, row.len());
-    mix(
-        &mut row[here.from..here.to],
-        &source[here.from..here.to],
-        opacity,
-        mode,
-    );
 }
 
 /// How many texels are tested for opacity, as that costs less than to blend them.
@@ -242,44 +172,4 @@ pub(crate) fn texels(block: &PixelBlock, at: Texel, count: usize) -> &[Pixel]
 {
     let from = at.row * block.w() as usize + at.column;
     &block.pixels()[from..from + count]
-}
-
-/// Blends texels, scaled by an opacity, with the pixels of a row inside an area. The texel in
-/// column `tx` and row `ty` is at the top left point of the area.
-pub(crate) fn blit(
-    row: &mut [Pixel],
-    start: Point,
-    area: &Rect,
-    block: &PixelBlock,
-    tx: &i32,
-    ty: &i32,
-    opacity: u8,
-    mode: Blend,
-)
-    requires start { IsStart start }
-    requires short { length row.old ≤ GREATEST_DISPLAY_SIDE }
-    requires inside { is_inside (Blit area.now block.now tx.now ty.now opacity mode) ≡ true }
-    ensures long { length row.new ≡ length row.old }
-    ensures each { (i : ℕ) → i < length row.old → slice_index_or row.new i transparent
-        ≡ (if has area.now (right_of start i)
-        then laid mode (texel_of (Some block.now)
-        (plus (minus (right_of start i) (corner area.now))
-        (record { x = tx.now; y = ty.now }))) opacity
-        (slice_index_or row.old i transparent)
-        else slice_index_or row.old i transparent) }
-{
-    let here = span_of(area, start, row.len());
-    if here.to <= here.from {
-        return;
-    }
-    let p = right_of(start, here.from);
-    let at = texel_at(block, p, area, tx, ty);
-    let source = texels(block, at, here.to - here.from);
-    print(
-        &mut row[here.from..here.to],
-        source,
-        block.is_opaque(),
-        opacity,
-        mode,
-    );
 }

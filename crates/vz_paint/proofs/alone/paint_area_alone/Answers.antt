@@ -1,12 +1,8 @@
 use Rattle.std.proofs.Common.{◌∙◌, [], ◌∷◌, length, map, ap, arith}
 use Rattle.std.proofs.lemmas.List.Elements.{All-nil, All-push}
-use Rattle.vz_paint.specs.Choice.{seen}
-use Rattle.vz_paint.specs.Strips.{IsBrush, strip_of}
-use Rattle.vz_paint.specs.declared.brush.Brush.{Brush}
-use Rattle.vz_paint.specs.declared.brush.Sheet.{Sheet}
+use Rattle.vz_paint.specs.{Choice.seen, Strips.IsBrush, Strips.strip_of, declared.brush.Brush.Brush, declared.brush.Sheet.Sheet}
 use Rattle.vz_paint.proofs.Banded.{area_painted, whole_is, room_is}
-use Rattle.vz_paint.proofs.Brushing.{IsReady, may_put, same_strips, all_able}
-use Rattle.vz_paint.proofs.Grounded.{stands}
+use Rattle.vz_paint.proofs.{Brushing.IsReady, Brushing.may_put, Brushing.same_strips, Brushing.all_able, Grounded.stands}
 use Rattle.vz_paint.proofs.alone.paint_area_alone.Goals as goal
 
 pub new-requires-clause-whole : goal.new-requires-clause-whole
@@ -33,7 +29,7 @@ put_rows_alone-requires g c =
     let made = c.in_ok-brush.ensures in
     let one = All-push (IsReady rest sheet) [] c.in_ok-brush.brush (All-nil (IsReady rest sheet)) (made.ops, made.sheet, made.able) in
     let long = ap length c.from_mut.ensures.value in
-    may_put (λ (b : Brush). IsBrush (map (λ r. r.now) b.ops.now) b.sheet.area b.groups.items)
+    may_put (λ (b : Brush). IsBrush (map (λ r. r.now) b.ops.now) b.sheet.area b.rows b.groups.items)
     (λ (b : Brush). strip_of (map (λ r. r.now) b.ops.now) b.sheet.ground b.sheet.area) c.args.buffer.now.size (map (λ r. r.now) rest) c.ground_of-ground.result.color c.args.area.now
     c.from_mut.result.now c.requires.inside (omega (arith, long)) (all_able rest sheet (c.in_ok-brush.brush ∷ []) c.from_mut.result.now c.from_mut.ensures.value one)
 

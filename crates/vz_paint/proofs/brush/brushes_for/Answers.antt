@@ -1,6 +1,5 @@
-use Rattle.std.proofs.Common.{rules, subst, sym}
+use Rattle.std.proofs.{Common.rules, Common.subst, Common.sym, lemmas.List.Elements.All-push}
 use Rattle.std.specs.List.{All}
-use Rattle.std.proofs.lemmas.List.Elements.{All-push}
 use Rattle.vz_paint.proofs.Brushing.{IsReady}
 use Rattle.vz_paint.proofs.brush.brushes_for.Goals as goal
 

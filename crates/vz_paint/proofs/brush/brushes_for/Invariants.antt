@@ -7,4 +7,4 @@ use Rattle.vz_paint.proofs.brush.brushes_for.Given as goal
 abbrev pub invariant-loop : goal.invariant-loop
 invariant-loop l =
     (l.count ≤ vec_capacity l.brushes) × (vec_len l.brushes ≡ l.counter) × (length l.brushes.items ≡ l.counter)
-    × All (λ b. (b.ops.now ≡ l.ops) × (b.sheet ≡ l.sheet) × IsBrush (map (λ r. r.now) b.ops.now) b.sheet.area b.groups.items) l.brushes.items
+    × All (λ b. (b.ops.now ≡ l.ops) × (b.sheet ≡ l.sheet) × IsBrush (map (λ r. r.now) b.ops.now) b.sheet.area b.rows b.groups.items) l.brushes.items

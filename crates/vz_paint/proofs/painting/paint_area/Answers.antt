@@ -1,10 +1,6 @@
 use Rattle.std.proofs.Common.{◌∙◌, length, map, ap, arith}
-use Rattle.vz_paint.specs.Choice.{seen}
-use Rattle.vz_paint.specs.Strips.{IsBrush, strip_of}
-use Rattle.vz_paint.specs.declared.brush.Brush.{Brush}
-use Rattle.vz_paint.specs.declared.brush.Sheet.{Sheet}
-use Rattle.vz_paint.proofs.Banded.{area_painted, whole_is, room_is}
-use Rattle.vz_paint.proofs.Brushing.{may_put, same_strips, all_able}
+use Rattle.vz_paint.specs.{Choice.seen, Strips.IsBrush, Strips.strip_of, declared.brush.Brush.Brush, declared.brush.Sheet.Sheet}
+use Rattle.vz_paint.proofs.{Banded.area_painted, Banded.whole_is, Banded.room_is, Brushing.may_put, Brushing.same_strips, Brushing.all_able}
 use Rattle.vz_paint.proofs.Grounded.{stands}
 use Rattle.vz_paint.proofs.painting.paint_area.Goals as goal
 
@@ -32,7 +28,7 @@ put_rows-requires-after_bounds g c κs within =
     let same = ap length c.as_mut_slice.ensures.value in
     let many = c.in_ok-brushes.ensures.count in
     let threads = c.requires.threads in
-    may_put (λ (b : Brush). IsBrush (map (λ r. r.now) b.ops.now) b.sheet.area b.groups.items)
+    may_put (λ (b : Brush). IsBrush (map (λ r. r.now) b.ops.now) b.sheet.area b.rows b.groups.items)
     (λ (b : Brush). strip_of (map (λ r. r.now) b.ops.now) b.sheet.ground b.sheet.area) c.args.buffer.now.size (map (λ r. r.now) rest) c.ground_of-ground.result.color c.args.area.now
     c.as_mut_slice.result.now c.requires.inside (omega (arith, same, many, threads)) (all_able rest sheet c.in_ok-brushes.brushes.items c.as_mut_slice.result.now c.as_mut_slice.ensures.value c.in_ok-brushes.ensures.each)
 

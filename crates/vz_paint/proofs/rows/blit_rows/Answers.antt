@@ -1,17 +1,14 @@
 use Rattle.std.proofs.Common.{◌≡◌, ◌+◌, ◌-◌, ◌*◌, ◌<◌, ◌≤◌, ◌≤ℤ◌, true, Some, List, length, get_or, sym, subst, ap, ◌∙◌, arith}
 use Rattle.std.specs.List.{list_all}
-use Rattle.vz_geom.specs.Rectangle.{plus, minus, corner}
-use Rattle.vz_geom.specs.declared.Point.{Point}
+use Rattle.vz_geom.specs.{Rectangle.plus, Rectangle.minus, Rectangle.corner, declared.Point.Point}
 use Rattle.vz_pixels.specs.Colour.{Colour, transparent, is_opaque}
 use Rattle.vz_frame.proofs.Parts.{length_part}
 use Rattle.vz_rules.specs.Paint.{texel_of}
 use Rattle.vz_flat.specs.declared.op.Op.TheVariants.{Blit}
-use Rattle.vz_paint.specs.Row.{right_of}
-use Rattle.vz_paint.specs.Redraw.{step_of}
-use Rattle.vz_paint.proofs.Redrawn.{rows_begin, rows_end, unchanged, part_fits}
-use Rattle.vz_paint.proofs.Flatly.{print_next, blit_none, no_columns, block_row, low_start, near_row}
+use Rattle.vz_paint.specs.{Row.right_of, Redraw.point_of, Redraw.step_of}
+use Rattle.vz_paint.proofs.{Redrawn.rows_begin, Redrawn.rows_end, Redrawn.unchanged, Redrawn.part_fits, Opaque_texels.opaque_part}
+use Rattle.vz_paint.proofs.Patches.{mix_next, laid_none, no_columns, block_row, low_start, near_row}
 use Rattle.vz_paint.proofs.Blitted.{columns_fit, rows_fit, across, texel_same, listed}
-use Rattle.vz_paint.proofs.Opaque_texels.{opaque_part}
 use Rattle.vz_paint.proofs.rows.blit_rows.Goals as goal
 
 pub loop-k-init : goal.loop-k-init
@@ -19,7 +16,7 @@ loop-k-init c =
     let a = c.args in
     let n = a.lines in
     rows_begin n.width n.left n.wide n.count c.patch_of-here.result.top (step_of a.start (Blit a.area.now a.block.now a.tx.now a.ty.now a.opacity a.mode)) a.pixels.now
-    (λ r i low near d. blit_none a.start a.area.now a.block.now a.tx.now a.ty.now a.opacity a.mode r i d (c.patch_of-here.ensures.above r i low))
+    (λ r i low near d. laid_none a.start a.area.now (λ r i. texel_of (Some a.block.now) (plus (minus (point_of a.start r i) (corner a.area.now)) (record { x = a.tx.now; y = a.ty.now }))) a.opacity a.mode r i d (c.patch_of-here.ensures.above r i low))
 
 pub below-first-requires-clause-near : goal.below-first-requires-clause-near
 below-first-requires-clause-near c =
@@ -118,7 +115,7 @@ loop-k-preserved c =
     let f = block_row a.area.now a.block.now (record { x = a.tx.now; y = a.ty.now }) a.start c.below-first.result a.opacity a.mode n.wide n.count l.k h.from h.to h.top h.bottom c.if-here.false e.most e.down e.exact l.invariant.least under c.below-first.ensures c.requires.inside in
     let most = across a.area.now a.block.now (record { x = a.tx.now; y = a.ty.now }) c.below-first.result c.right_of-p.result h.from h.to c.texel_at-texel.result.column f c.right_of-p.ensures c.texel_at-texel.ensures.column in
     let there = listed a.block.now c.texel_at-texel.result.column c.texel_at-texel.result.row (h.to - h.from) c.texels-source.ensures.counted most c.texel_at-texel.ensures.inside in
-    print_next n.width n.left n.wide n.count h.top l.k c.place-at.result h.from h.to a.start a.area.now a.block.now a.tx.now a.ty.now a.opacity a.mode c.texels-source.result.now a.pixels.now l.pixels c.print.new.row l.invariant
+    mix_next n.width n.left n.wide n.count h.top l.k c.place-at.result h.from h.to a.start a.area.now (λ r i. texel_of (Some a.block.now) (plus (minus (point_of a.start r i) (corner a.area.now)) (record { x = a.tx.now; y = a.ty.now }))) a.opacity a.mode c.texels-source.result.now a.pixels.now l.pixels c.print.new.row l.invariant
     low e.ordered e.most c.requires.lines.inside c.requires.lines.long c.place-at.ensures.value (λ i near. e.exact l.k i low l.invariant.least under near)
     (ap length c.texels-source.ensures.value ∙ length_part transparent a.block.now.pixels _ (h.to - h.from) there)
     (λ i least near.
@@ -135,7 +132,7 @@ returns c =
     let e = c.patch_of-here.ensures in
     let done : c.patch_of-here.result.bottom ≤ l.k = c.loop-k-test.false in
     rows_end n.width n.left n.wide n.count c.patch_of-here.result.top l.k (step_of a.start (Blit a.area.now a.block.now a.tx.now a.ty.now a.opacity a.mode)) a.pixels.now l.pixels l.invariant
-    (λ r i low more near d. blit_none a.start a.area.now a.block.now a.tx.now a.ty.now a.opacity a.mode r i d (e.under r i low (omega (arith, done, more))))
+    (λ r i low more near d. laid_none a.start a.area.now (λ r i. texel_of (Some a.block.now) (plus (minus (point_of a.start r i) (corner a.area.now)) (record { x = a.tx.now; y = a.ty.now }))) a.opacity a.mode r i d (e.under r i low (omega (arith, done, more))))
 
 pub returns-then-here : goal.returns-then-here
 returns-then-here c =
@@ -144,4 +141,4 @@ returns-then-here c =
     let e = c.patch_of-here.ensures in
     let h = c.patch_of-here.result in
     unchanged n.width n.left n.wide n.count (step_of a.start (Blit a.area.now a.block.now a.tx.now a.ty.now a.opacity a.mode)) a.pixels.now
-    (λ r i low near d. blit_none a.start a.area.now a.block.now a.tx.now a.ty.now a.opacity a.mode r i d (no_columns a.area.now a.start n.wide n.count h.from h.to h.top h.bottom r i c.if-here.true e.above e.under e.exact low near))
+    (λ r i low near d. laid_none a.start a.area.now (λ r i. texel_of (Some a.block.now) (plus (minus (point_of a.start r i) (corner a.area.now)) (record { x = a.tx.now; y = a.ty.now }))) a.opacity a.mode r i d (no_columns a.area.now a.start n.wide n.count h.from h.to h.top h.bottom r i c.if-here.true e.above e.under e.exact low near))

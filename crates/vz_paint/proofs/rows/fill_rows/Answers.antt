@@ -1,8 +1,7 @@
 use Rattle.std.proofs.Common.{◌<◌, ◌≤◌, arith}
 use Rattle.vz_flat.specs.declared.op.Op.TheVariants.{Fill}
 use Rattle.vz_paint.specs.Redraw.{step_of}
-use Rattle.vz_paint.proofs.Redrawn.{rows_begin, rows_end}
-use Rattle.vz_paint.proofs.Flatly.{tint_next, fill_none}
+use Rattle.vz_paint.proofs.{Redrawn.rows_begin, Redrawn.rows_end, Patches.tint_next, Patches.laid_none}
 use Rattle.vz_paint.proofs.rows.fill_rows.Goals as goal
 
 pub loop-k-init : goal.loop-k-init
@@ -10,7 +9,7 @@ loop-k-init c =
     let a = c.args in
     let n = a.lines in
     rows_begin n.width n.left n.wide n.count c.patch_of-here.result.top (step_of a.start (Fill a.area.now a.color a.opacity a.mode)) a.pixels.now
-    (λ r i low near d. fill_none a.start a.area.now a.color a.opacity a.mode r i d (c.patch_of-here.ensures.above r i low))
+    (λ r i low near d. laid_none a.start a.area.now (λ r i. a.color) a.opacity a.mode r i d (c.patch_of-here.ensures.above r i low))
 
 pub loop-k-preserved : goal.loop-k-preserved
 loop-k-preserved c =
@@ -33,4 +32,4 @@ returns c =
     let e = c.patch_of-here.ensures in
     let done : c.patch_of-here.result.bottom ≤ l.k = c.loop-k-test.false in
     rows_end n.width n.left n.wide n.count c.patch_of-here.result.top l.k (step_of a.start (Fill a.area.now a.color a.opacity a.mode)) a.pixels.now l.pixels l.invariant
-    (λ r i low more near d. fill_none a.start a.area.now a.color a.opacity a.mode r i d (e.under r i low (omega (arith, done, more))))
+    (λ r i low more near d. laid_none a.start a.area.now (λ r i. a.color) a.opacity a.mode r i d (e.under r i low (omega (arith, done, more))))

@@ -1,6 +1,5 @@
 use Rattle.std.proofs.Common.{arith}
-use Rattle.vz_paint.proofs.Redrawn.{rows_begin, rows_end}
-use Rattle.vz_paint.proofs.Flatly.{level_next}
+use Rattle.vz_paint.proofs.{Redrawn.rows_begin, Redrawn.rows_end, Patches.level_next}
 use Rattle.vz_paint.proofs.rows.level_rows.Goals as goal
 
 pub loop-k-init : goal.loop-k-init

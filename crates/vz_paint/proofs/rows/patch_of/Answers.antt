@@ -1,6 +1,6 @@
 use Rattle.std.proofs.Common.{◌+ℤ◌, pos, subst}
 use Rattle.vz_paint.proofs.Spanned.{IsBefore, exact, left_given, right_given}
-use Rattle.vz_paint.proofs.Flatly.{top_given, bottom_given, rows_above, rows_under, row_top, row_bottom}
+use Rattle.vz_paint.proofs.Patches.{top_given, bottom_given, rows_above, rows_under, row_top, row_bottom}
 use Rattle.vz_paint.proofs.rows.patch_of.Goals as goal
 
 pub returns-clause-above : goal.returns-clause-above
