@@ -3,7 +3,7 @@ ghost use Rattle.std.specs.Prelude.{Some};
 ghost use Rattle.vz_journal.specs.Giving.{Gives};
 ghost use Rattle.vz_journal.specs.Reading.{sub_at, counted_at, return_at, activated_at, destroyed_at, returned_at, fed_by, fed_at, effects_at};
 
-use crate::item::{Item, all};
+use crate::item::{Item, short};
 use crate::reader::Reader;
 use crate::stop::Stop;
 use std::alloc::Global;
@@ -127,10 +127,10 @@ fn read_fed(presented: bool, input: &mut Reader) -> Result<Fed, Stop>
 pub fn read_effects(alloc: Global, input: &mut Reader) -> Result<BoxedEffects, Stop>
     ensures { Gives (λ x. (x, input.new)) result (Some (effects_at input.old)) }
 {
-    let activated = all(alloc, &Activated, input)?;
-    let destroyed = all(alloc, &Destroyed, input)?;
-    let returned = all(alloc, &Queued, input)?;
-    let fed = all(alloc, &Feedback, input)?;
+    let activated = short(alloc, &Activated, input)?;
+    let destroyed = short(alloc, &Destroyed, input)?;
+    let returned = short(alloc, &Queued, input)?;
+    let fed = short(alloc, &Feedback, input)?;
     let effects = Effects {
         activated,
         destroyed,

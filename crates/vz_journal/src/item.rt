@@ -6,7 +6,7 @@ ghost use Rattle.vz_journal.specs.Reading.{Read, all_at};
 use crate::reader::Reader;
 use crate::stop::Stop;
 use std::alloc::Global;
-use vz_frame::List;
+use vz_frame::{List, ShortList};
 
 /// A kind of item, and how it is read.
 pub trait Item {
@@ -43,4 +43,17 @@ pub fn all<I: Item>(alloc: Global, item: &I, input: &mut Reader) -> Result<List<
     }
     *input = here;
     Ok(List::from_vec(values))
+}
+
+/// Reads as many values as there are, into a short list. It may be none.
+pub fn short<I: Item>(
+    alloc: Global,
+    item: &I,
+    input: &mut Reader,
+) -> Result<ShortList<I::Value>, Stop>
+    ensures { Gives (λ xs. (xs, input.new)) result
+        (Some (all_at (I.value_at item.now) input.old)) }
+{
+    let values = all(alloc, item, input)?;
+    Ok(ShortList::from_list(alloc, values)?)
 }

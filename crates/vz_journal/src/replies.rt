@@ -5,7 +5,7 @@ ghost use Rattle.vz_journal.specs.Reading.{rule_of, refusal_of, malformed_at, re
 ghost use Rattle.vz_journal.specs.Reading.{client_replies, client_reply_at, ticked_at, drawn_on, is_drawn, drawn_at, draw_replies, draw_reply_at, done_replies, over_replies, reply_at};
 
 use crate::effects::read_counted;
-use crate::item::{Item, all};
+use crate::item::{Item, short};
 use crate::reader::Reader;
 use crate::stop::Stop;
 use std::alloc::Global;
@@ -128,7 +128,7 @@ fn read_client_reply(alloc: Global, client: u32, input: &mut Reader) -> Result<R
         return read_began(input);
     }
     if input.has(b"reclaimed") {
-        let returns = all(alloc, &Reclaims { client }, input)?;
+        let returns = short(alloc, &Reclaims { client }, input)?;
         return Ok(Reply::Reclaimed(returns));
     }
     if input.has(b"refused") {

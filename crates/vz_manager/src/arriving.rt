@@ -25,7 +25,7 @@ use crate::room::ready_to_follow;
 use std::alloc::Global;
 use vz_base::Memory;
 use vz_base::limits::TEMPORARY_TICKS;
-use vz_frame::{CompositorFrame, List, Room};
+use vz_frame::{CompositorFrame, Room, ShortList};
 use vz_geom::Size;
 use vz_ids::{FrameSinkId, LocalSurfaceId, SurfaceId};
 use vz_pixels::PixelBlock;
@@ -49,7 +49,7 @@ pub(crate) struct Coming {
     /// The unmet dependencies, in the order of the frame.
     pub(crate) lacked: Room<SurfaceId>,
     /// The pixel block of each listed resource, in the order of the listings.
-    pub(crate) blocks: List<PixelBlock>,
+    pub(crate) blocks: ShortList<PixelBlock>,
 }
 
 /// Whether a local id is that of the last surface that a client created, if it created one.

@@ -7,13 +7,12 @@ ghost use Rattle.vz_rules.specs.World.{World};
 ghost use Rattle.vz_rules.specs.Step.{step_in};
 ghost use Rattle.vz_manager.specs.Serving.{Serves, IsStepOf};
 
-use crate::outcome::take;
 use crate::parts::Parts;
 use crate::quiet::nothing_follows;
 use std::alloc::Global;
-use vz_frame::{List, Room};
+use vz_frame::Room;
 use vz_machine::Step;
-use vz_rules::{Effects, EffectsRoom, Fed, Reply, Returned};
+use vz_rules::{EffectsRoom, Fed, Reply, Returned};
 
 /// The step in which the drawn frame was shown, with the returned resources and the feedback,
 /// which are taken out of their lists. It allocates nothing.
@@ -34,15 +33,11 @@ fn shown(
     ensures none_returned { returned.new.list ≡ [] }
     ensures none_fed { fed.new.list ≡ [] }
 {
-    let effects = Effects {
-        activated: List::new(alloc),
-        destroyed: List::new(alloc),
-        returned: take(alloc, returned),
-        fed: take(alloc, fed),
-    };
+    let mut activated = Room::new(alloc);
+    let mut destroyed = Room::new(alloc);
     Step {
         reply: Reply::Shown,
-        effects: room.fill(effects),
+        effects: room.fill(&mut activated, &mut destroyed, returned, fed),
     }
 }
 

@@ -14,11 +14,10 @@ ghost use Rattle.vz_surface_manager.specs.Collects.{HaveRoom};
 ghost use Rattle.vz_manager.specs.Followed.{IsFollowed, IsKeeping, IsAsked, CanKeep, CanFollow, Tells};
 
 use std::alloc::Global;
-use std::mem;
-use vz_frame::{List, Room};
+use vz_frame::{Room, ShortRoom};
 use vz_ids::{Sub, SurfaceId};
 use vz_machine::Step;
-use vz_rules::{BoxedEffects, Effects, EffectsRoom, Fed, Lost, Reply, Returned};
+use vz_rules::{BoxedEffects, EffectsRoom, Fed, Lost, Reply, Returned};
 use vz_surface_manager::{Lists, SurfaceManager};
 
 /// The lists for the effects of a step, and the work lists. Their room is reserved before the
@@ -32,6 +31,7 @@ pub(crate) struct Following {
     pub(crate) ids: Room<SurfaceId>,
     pub(crate) lists: Lists,
     pub(crate) effects: EffectsRoom,
+    pub(crate) reclaimed: ShortRoom<Returned>,
 }
 
 /// A surface that the step created, and the last tick at which it is kept as temporary.
@@ -156,19 +156,8 @@ pub(crate) fn finish(
     follow(settling, root, new, anew, following);
     Step {
         reply,
-        effects: following.take_effects(alloc),
+        effects: following.take_effects(),
     }
-}
-
-/// Takes the items out of a list. An empty list keeps its room.
-pub(crate) fn take<T>(alloc: Global, list: &mut Room<T>) -> List<T>
-    ensures items { result ≡ list.old.list }
-    ensures none { list.new.list ≡ [] }
-{
-    if list.as_slice().is_empty() {
-        return List::new(alloc);
-    }
-    mem::replace(list, Room::new(alloc)).into_list()
 }
 
 impl Following {
@@ -182,21 +171,21 @@ impl Following {
             ids: Room::new(alloc),
             lists: Lists::new(alloc),
             effects: EffectsRoom::new(alloc),
+            reclaimed: ShortRoom::new(),
         }
     }
 
-    /// Takes the effects out. A list that was used is replaced by a new one, and an empty one
-    /// keeps its room. Condition: there is room for the effects.
-    pub(crate) fn take_effects(&mut self, alloc: Global) -> BoxedEffects
+    /// Takes the effects out. A list of several is replaced by a new one, and a shorter one keeps
+    /// its room. Condition: there is room for the effects.
+    pub(crate) fn take_effects(&mut self) -> BoxedEffects
         requires { self.old.effects ≡ true }
         ensures { Tells result self.old }
     {
-        let effects = Effects {
-            activated: take(alloc, &mut self.activated),
-            destroyed: take(alloc, &mut self.destroyed),
-            returned: take(alloc, &mut self.returned),
-            fed: take(alloc, &mut self.fed),
-        };
-        self.effects.fill(effects)
+        self.effects.fill(
+            &mut self.activated,
+            &mut self.destroyed,
+            &mut self.returned,
+            &mut self.fed,
+        )
     }
 }

@@ -15,7 +15,7 @@ ghost use Rattle.vz_manager.specs.Serving.{Serves, IsStepOf, IsSending, IsRefuse
 
 use crate::parts::Parts;
 use vz_base::Memory;
-use vz_frame::{Message, Room};
+use vz_frame::Message;
 use vz_machine::Step;
 use vz_rules::{BoxedEffects, Refusal, Reply};
 use vz_support::Support;
@@ -160,11 +160,16 @@ impl Parts {
             → OnOk result (Serves p (step_in p w (event.Client c)).world self.new) }
         ensures err { OnErr result (self.new ≡ self.old) }
     {
-        let mut queue = Room::new(self.alloc);
-        queue.reserve(self.settling.live.queued(c))?;
-        self.settling.live.reclaim(c, &mut queue);
+        let following = &mut self.following;
+        following.returned.clear();
+        following.returned.reserve(self.settling.live.queued(c))?;
+        following.reclaimed.reserve(self.alloc)?;
+        self.settling.live.reclaim(c, &mut following.returned);
         self.support.reclaim(c);
-        Ok(nothing_follows(Reply::Reclaimed(queue.into_list())))
+        let queue = following
+            .reclaimed
+            .take(self.alloc, &mut following.returned);
+        Ok(nothing_follows(Reply::Reclaimed(queue)))
     }
 
     /// Sets the Over mark: no client will wait for a begin-frame any more.

@@ -29,7 +29,7 @@ use crate::judging::{refusal, submission};
 use crate::outcome::finish;
 use crate::parts::Parts;
 use vz_base::Memory;
-use vz_frame::{List, Room};
+use vz_frame::{Room, ShortList};
 use vz_ids::{FrameSinkId, Sub, SurfaceId};
 use vz_machine::Step;
 use vz_pixels::PixelBlock;
@@ -45,7 +45,7 @@ fn put_in(
     settling: &mut SurfaceManager,
     c: u32,
     sink: FrameSinkId,
-    blocks: List<PixelBlock>,
+    blocks: ShortList<PixelBlock>,
 ) -> Result<Accepted, Memory>
     requires some { 1 ≤ c }
     requires known { c ≤ length support.old.clients }

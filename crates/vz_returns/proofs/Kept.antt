@@ -35,7 +35,7 @@ fed_has (x ∷ list) s t = grind (arith, nat_tests, fed_has list s t, from_same_
 
 -- The order
 
-pub over : (a b c : Sub) → before a b ≡ true → before b c ≡ true → before a c ≡ true
+over : (a b c : Sub) → before a b ≡ true → before b c ≡ true → before a c ≡ true
 over a b c h k = grind (arith, nat_tests)
 
 pub or_after : (a b : Sub) → before a b ≡ false → same_sub a b ≡ false → before b a ≡ true
@@ -47,7 +47,7 @@ all_over a b [] h k = refl
 all_over a b (x ∷ list) h k = let parts = both (before b x) (list_all (before b) list) k in two_true _ _ (over a b x h parts.0) (all_over a b list h parts.1)
 
 -- none comes before one that comes before all
-pub none_before : (s : Sub) (list : List Sub) → list_all (before s) list ≡ true → place_in list s ≡ 0
+none_before : (s : Sub) (list : List Sub) → list_all (before s) list ≡ true → place_in list s ≡ 0
 none_before s [] h = refl
 none_before s (x ∷ list) h = grind (arith, nat_tests, both (before s x) (list_all (before s) list) h, count_cons, none_before s list)
 
@@ -57,7 +57,7 @@ all_in a s [] (suc n) h k = two_true _ _ h refl
 all_in a s (x ∷ list) zero h k = two_true _ _ h k
 all_in a s (x ∷ list) (suc n) h k = let parts = both (before a x) (list_all (before a) list) k in two_true _ _ parts.0 (all_in a s list n h parts.1)
 
-pub one_more : (n : ℕ) → 1 + n ≡ suc n
+one_more : (n : ℕ) → 1 + n ≡ suc n
 one_more n = omega arith
 
 pub opened_in_order : (list : List Sub) (s : Sub) → in_order list ≡ true → is_open list s ≡ false → in_order (opened s list) ≡ true

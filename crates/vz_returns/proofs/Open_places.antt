@@ -1,35 +1,33 @@
 -- Those that await feedback are those that have places, where one is added and where one is noted.
-use Rattle.std.proofs.Common.{◌≡◌, ℕ, zero, suc, ◌+◌, ◌-◌, ◌<◌, Bool, true, false, not, ◌&&◌, ◌||◌, Option, Some, None, is_some, List, [], ◌∷◌, length, insert, min, Result, Ok, Err, OnOk, IfOk, refl, ap, sym, subst, ◌∙◌, arith, cond}
+use Rattle.std.proofs.Common.{◌≡◌, ℕ, ◌+◌, ◌-◌, ◌<◌, true, false, Option, Some, None, is_some, List, [], ◌∷◌, length, min, Result, Ok, Err, OnOk, ap, sym, ◌∙◌, arith, cond}
 use Rattle.std.specs.{List.list_all, Map.lookup}
 use Rattle.std.proofs.{lemmas.Bool.Decides.nat_tests, Math.Nat.min-le_right}
 use Rattle.vz_ids.specs.{declared.Sub.Sub, Ids.same_sub}
 use Rattle.vz_returns.specs.Unfed.{before, in_order, is_open, place_in, opened, fed}
 use Rattle.vz_returns.proofs.Kept.{both, from_same_sub, opened_has, fed_has, opened_in_order, fed_in_order}
-use Rattle.vz_returns.proofs.Halved.{none_left}
-use Rattle.vz_returns.specs.Notes.{AreKept, room_for}
+use Rattle.vz_returns.proofs.Sorted_subs.{none_left, none_in_order, none_behind, insert_length, told_none, told_some}
+use Rattle.vz_returns.specs.Notes.{AreKept}
 
 -- How many
-
-insert_length : (list : List Sub) (n : ℕ) (s : Sub) → length (insert list n s) ≡ length list + 1
-insert_length [] zero s = refl
-insert_length [] (suc n) s = refl
-insert_length (x ∷ list) zero s = omega arith
-insert_length (x ∷ list) (suc n) s = let rest = insert_length list n s in omega (arith, rest)
-
-pub none_behind : (x : Sub) (list : List Sub) → list_all (before x) list ≡ true → is_open list x ≡ false
-none_behind x [] h = refl
-none_behind x (y ∷ list) h = grind (arith, nat_tests, both (before x y) (list_all (before x) list) h, none_behind x list)
 
 pub fed_length : (list : List Sub) (s : Sub) → in_order list ≡ true → is_open list s ≡ true → length (fed s list) + 1 ≡ length list
 unfolding in_order
 fed_length [] s sorted there = absurd (cc)
 fed_length (x ∷ list) s sorted there = grind (arith, nat_tests, both (list_all (before x) list) (in_order list) sorted, fed_length list s, from_same_sub x s, none_behind x list, none_left list s)
 
--- One is noted
+-- None at first
 
-told_none : (a b : Bool) (o : Option ℕ) (v : Option ℕ) → v ≡ cond a None o → b ≡ is_some o → (not a && b) ≡ is_some v
-told_none true b o v e h = ap is_some (sym e)
-told_none false b o v e h = h ∙ ap is_some (sym e)
+pub none_kept : (unfed : List Sub) (places : List (Sub × ℕ)) (free : ℕ) → unfed ≡ [] → places ≡ [] → AreKept unfed places free
+none_kept unfed places free list none =
+    let few = ap length none in
+    record {
+      sorted = ap in_order list ∙ none_in_order;
+      same = λ t. ap (λ l. is_open l t) list ∙ sym (ap (λ l. is_some (lookup (same_sub t) l)) none);
+      count = ap length list ∙ sym few;
+      room = omega (arith, few);
+    }
+
+-- One is noted
 
 pub kept_noted : (unfed fewer : List Sub) (places left : List (Sub × ℕ)) (s : Sub) (n free rest : ℕ) → AreKept unfed places free
     → fewer ≡ fed s unfed → Some n ≡ lookup (same_sub s) places
@@ -43,10 +41,6 @@ pub count_noted : (unfed fewer : List Sub) (places : List (Sub × ℕ)) (s : Sub
 count_noted unfed fewer places s n free k list found = grind (arith, nat_tests, fed_length unfed s k.sorted)
 
 -- One is added
-
-told_some : (a b : Bool) (m : ℕ) (o : Option ℕ) (v : Option ℕ) → v ≡ cond a (Some m) o → b ≡ is_some o → (a || b) ≡ is_some v
-told_some true b m o v e h = ap is_some (sym e)
-told_some false b m o v e h = h ∙ ap is_some (sym e)
 
 pub kept_added : (unfed more : List Sub) (places longer : List (Sub × ℕ)) (s : Sub) (m free : ℕ) → AreKept unfed places free
     → more ≡ opened s unfed → lookup (same_sub s) places ≡ None
@@ -69,14 +63,10 @@ pub on_ok : {A E : Type 0} (P : Type 0) (r : Result A E) (v : A) → r ≡ Ok v 
 on_ok P (Ok w) v e h = h
 on_ok P (Err f) v e h = absurd (cc)
 
-pub if_ok : {A E : Type 0} (P : A → Type 0) (r : Result A E) (v : A) → r ≡ Ok v → IfOk r P → P v
-if_ok P (Ok w) v e h = let same : w ≡ v = cc in subst P same h
-if_ok P (Err f) v e h = absurd (cc)
-
 -- one more entry, where the key is new
 pub one_longer : (a b : ℕ) (old found : Option ℕ) → old ≡ found → found ≡ None → a ≡ b + cond (is_some old) 0 1 → a ≡ b + 1
 one_longer a b old found e f h = h ∙ ap {B = ℕ} (λ (o : Option ℕ). b + cond (is_some o) 0 1) (e ∙ f)
 
 -- where there is room for one more, it can have its feedback due
-pub has_free : (a b free n : ℕ) → 0 < room_for a b (free - n) → n < free
-has_free a b free n h = let p = min-le_right a (min b (free - n)) in let q = min-le_right b (free - n) in omega (arith, h, p, q)
+pub has_free : (a free n : ℕ) → 0 < min a (free - n) → n < free
+has_free a free n h = let p = min-le_right a (free - n) in omega (arith, h, p)

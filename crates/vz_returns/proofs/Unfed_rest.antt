@@ -8,32 +8,8 @@ use Rattle.vz_rules.specs.{Returns.feedback_of, Log.unfed_of, Log.rest_in}
 use Rattle.vz_rules.proofs.Members.{at_contains, contains_at, contains_here, contains_there, contains_map, filter_at, flat_map_at, any_at, any_from, any_map, all_from, same_tests}
 use Rattle.vz_rules.proofs.Counts.{count_before}
 use Rattle.vz_returns.specs.{Unfed.before, Unfed.in_order, Unfed.is_open, Owed.Owed, Owed.AreOwed, Owed.place_of}
-use Rattle.vz_returns.proofs.Kept.{both, two_true, all_over, or_after, from_same_sub}
-use Rattle.vz_returns.proofs.{Owes.either, Owes.same_self, Owes.yes_no, Open_places.none_behind, Owed_kept.none_gets}
-
--- Two lists in their order with the same submissions are one
-
-not_open : (x y : Sub) (ys : List Sub) → list_all (before y) ys ≡ true → before x y ≡ true → is_open (y ∷ ys) x ≡ false
-not_open x y ys h less = none_behind x (y ∷ ys) (two_true _ _ less (all_over x y ys less h))
-
-open_here : (x : Sub) (xs : List Sub) → is_open (x ∷ xs) x ≡ true
-open_here x xs = ap (λ t. t || is_open xs x) (same_self x)
-
-first_same : (x y : Sub) (xs ys : List Sub) → list_all (before x) xs ≡ true → list_all (before y) ys ≡ true
-    → ((t : Sub) → is_open (x ∷ xs) t ≡ is_open (y ∷ ys) t) → x ≡ y
-first_same x y xs ys h k same = grind (arith, nat_tests, yes_no, open_here, not_open, either, from_same_sub, or_after)
-
-rest_same : (x : Sub) (xs ys : List Sub) → list_all (before x) xs ≡ true → list_all (before x) ys ≡ true
-    → ((t : Sub) → is_open (x ∷ xs) t ≡ is_open (x ∷ ys) t) → (t : Sub) → is_open xs t ≡ is_open ys t
-rest_same x xs ys h k same t = grind (arith, nat_tests, from_same_sub x t, none_behind x xs h, none_behind x ys k)
-
-one_list : (xs ys : List Sub) → in_order xs ≡ true → in_order ys ≡ true → ((t : Sub) → is_open xs t ≡ is_open ys t) → xs ≡ ys
-unfolding in_order
-one_list [] [] h k same = refl
-one_list [] (y ∷ ys) h k same = let no_way = yes_no (is_open (y ∷ ys) y) (open_here y ys) (sym (same y)) in absurd (cc)
-one_list (x ∷ xs) [] h k same = let no_way = yes_no (is_open (x ∷ xs) x) (open_here x xs) (same x) in absurd (cc)
-one_list (x ∷ xs) (y ∷ ys) h k same =
-    grind (arith, nat_tests, both (list_all (before x) xs) (in_order xs) h, both (list_all (before y) ys) (in_order ys) k, first_same x y xs ys, one_list xs ys, rest_same x xs ys)
+use Rattle.vz_returns.proofs.Kept.{both, two_true, from_same_sub}
+use Rattle.vz_returns.proofs.{Owes.same_self, Sorted_subs.one_list, Owed_kept.none_gets}
 
 -- Those of the state, by client and ordinal
 

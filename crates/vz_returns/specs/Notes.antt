@@ -1,5 +1,5 @@
 -- How owed feedback changes, and what always holds of it.
-use Rattle.std.specs.Prelude.{◌≡◌, ℕ, ◌+◌, ◌≤◌, min, Bool, true, false, ◌&&◌, Option, Some, None, is_some, List, [], ◌∷◌, ◌++◌, length, if◌then◌else◌}
+use Rattle.std.specs.Prelude.{◌≡◌, ℕ, ◌+◌, ◌≤◌, Bool, true, false, ◌&&◌, Option, Some, None, is_some, List, [], ◌∷◌, ◌++◌, length, if◌then◌else◌}
 use Rattle.std.specs.Map.{lookup}
 use Rattle.vz_ids.specs.declared.Sub.{Sub}
 use Rattle.vz_ids.specs.Ids.{same_sub}
@@ -57,10 +57,6 @@ without_due f = record f { due = [] }
 -- how many submissions await feedback or have it due
 abbrev pub owed_count : Owed → ℕ
 owed_count f = length f.unfed + length f.due
-
--- for how many more submissions there is room, in all three lists
-abbrev pub room_for : ℕ → ℕ → ℕ → ℕ
-room_for unfed places due = min unfed (min places due)
 
 -- exactly the submissions that await feedback have places, and there is room for all of it to
 -- become due

@@ -5,9 +5,11 @@ use Rattle.vz_ids.specs.declared.Sub.{Sub}
 use Rattle.vz_ids.specs.Ids.{same_sub}
 use Rattle.vz_rules.specs.World.{Submission, sub_of}
 
--- the submissions that await feedback, with reserved room
+-- the submissions that await feedback, by client and ordinal; each of them with its place in the
+-- order of acceptance; and reserved room
 pub record Unfed : Type 0 where
   pub list : List Sub
+  pub places : List (Sub × ℕ)
   pub spare : ℕ
 
 -- one submission comes before another, by client and ordinal
@@ -30,6 +32,11 @@ place_in list s = count_by (λ t. before t s) list
 -- one more submission awaits feedback, at its place in the order
 abbrev pub opened : Sub → List Sub → List Sub
 opened s list = insert list (place_in list s) s
+
+-- the submissions that have places, each once, by client and ordinal
+unfoldable pub sorted_subs : List (Sub × ℕ) → List Sub
+sorted_subs [] = []
+sorted_subs (e ∷ places) = if is_open (sorted_subs places) e.0 then sorted_subs places else opened e.0 (sorted_subs places)
 
 -- a submission got its feedback
 abbrev pub fed : Sub → List Sub → List Sub

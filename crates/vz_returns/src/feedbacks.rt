@@ -1,39 +1,53 @@
 //! The submissions that await feedback.
-ghost use Rattle.std.specs.Prelude.{◌≡◌, ◌≤◌, ◌<◌, ◌+◌, [], ◌++◌, length, IsTrue, IsFalse, IsOk, OnOk, OnErr, IfSome, is_some};
+ghost use Rattle.std.specs.Prelude.{◌≡◌, ◌≤◌, ◌<◌, ◌+◌, ◌^◌, [], ◌++◌, length, Some, None, is_some, IfNone, IsFalse, IsOk, OnOk, OnErr, if◌then◌else◌};
+ghost use Rattle.std.specs.Map.{lookup};
+ghost use Rattle.vz_ids.specs.declared.Sub.{Sub as SubName};
 ghost use Rattle.vz_ids.specs.Ids.{same_sub};
-ghost use Rattle.vz_returns.specs.Unfed.{before, in_order, is_open, place_in, opened, fed};
+ghost use Rattle.vz_returns.specs.Unfed.{is_open, opened, fed};
 
+use indexmap::IndexMap;
 use std::alloc::Global;
 use std::marker::Model;
 use vz_base::Memory;
 use vz_frame::Room;
 use vz_ids::Sub;
 
-/// The submissions that await feedback, by client and ordinal. Contracts see their list, and the
-/// room that was reserved before. A submission is found by binary search.
+/// The submissions that await feedback, each with its place in the order of acceptance. Contracts
+/// see their list by client and ordinal, their places, and the room that was reserved before.
+///
+/// The map has them in any order: they are sorted as they are listed. The room is counted beside
+/// it, as the map's own may have changed after an allocation that failed.
 #[derive(Drop)]
 pub struct Feedbacks {
-    list: Vec<Sub>,
+    places: IndexMap<Sub, u64>,
+    room: usize,
 }
 
 impl Model for Feedbacks {
-    ghost use Rattle.std.specs.Prelude.{◌-◌, IsTrue, vec_len, vec_capacity};
-    ghost use Rattle.vz_returns.specs.Unfed.{Unfed, in_order};
+    ghost use Rattle.std.specs.Prelude.{◌≤◌};
+    ghost use Rattle.indexmap.specs.IndexMap.{spare as spare_of};
+    ghost use Rattle.vz_returns.specs.Unfed.{Unfed, sorted_subs};
 
     ghost Value = { Unfed };
 
-    ghost view = { λ a. record { list = a.list.items; spare = vec_capacity a.list - vec_len a.list } };
+    ghost view = { λ a. record {
+      list = sorted_subs a.places.entries;
+      places = a.places.entries;
+      spare = a.room;
+    } };
 
-    ghost invariant = { λ a. IsTrue (in_order a.list.items) };
+    ghost invariant = { λ a. a.room ≤ spare_of a.places };
 }
 
 impl Feedbacks {
     /// Creates an empty list. It allocates nothing.
     pub fn new(alloc: Global) -> Feedbacks
-        ensures { result.list ≡ [] }
+        ensures list { result.list ≡ [] }
+        ensures places { result.places ≡ [] }
     {
         Feedbacks {
-            list: Vec::new(alloc),
+            places: IndexMap::new(alloc),
+            room: 0,
         }
     }
 
@@ -41,18 +55,24 @@ impl Feedbacks {
     /// fails. In either case nothing else changes and no room is lost.
     pub fn ready(&mut self, n: usize) -> Result<(), Memory>
         ensures list { self.new.list ≡ self.old.list }
+        ensures places { self.new.places ≡ self.old.places }
         ensures ok { OnOk result (n ≤ self.new.spare) }
         ensures err { OnErr result (self.new ≡ self.old) }
         ensures succeeds { n ≤ self.old.spare → IsOk result }
         ensures spare { self.old.spare ≤ self.new.spare }
     {
-        self.list.try_reserve(n)?;
+        if n <= self.room {
+            return Ok(());
+        }
+        self.places.reserve(n)?;
+        self.room = n;
         Ok(())
     }
 
     /// Adds a submission, which awaits feedback from now on. It returns `Memory` if an allocation
     /// fails; then the list does not change and no room is lost. If there is room for one, it
-    /// returns Ok and uses up no more than that. Condition: the submission is not in the list.
+    /// returns Ok and uses up no more than that. It has the place 0, whatever was added before.
+    /// Condition: the submission is not in the list.
     pub fn add(&mut self, s: Sub) -> Result<(), Memory>
         requires { IsFalse (is_open self.old.list s) }
         ensures list { OnOk result (self.new.list ≡ opened s self.old.list) }
@@ -61,8 +81,7 @@ impl Feedbacks {
         ensures succeeds { 0 < self.old.spare → IsOk result }
         ensures spare { self.old.spare ≤ self.new.spare + 1 }
     {
-        let place = place_in(&self.list, &s);
-        self.list.insert(place, s)?;
+        self.put(s, 0)?;
         Ok(())
     }
 
@@ -72,20 +91,15 @@ impl Feedbacks {
         ensures list { self.new.list ≡ fed s self.old.list }
         ensures spare { self.old.spare ≤ self.new.spare }
     {
-        match find(&self.list, &s) {
-            Some(place) => {
-                self.list.remove(place);
-                true
-            }
-            None => false,
-        }
+        self.take(s).is_some()
     }
 
     /// How many submissions await feedback.
     pub fn unfed(&self) -> usize
-        ensures { result ≡ length self.now.list }
+        ensures value { result ≡ length self.now.list }
+        ensures small { result < 2 ^ 63 }
     {
-        self.list.len()
+        self.places.len()
     }
 
     /// Appends the submissions that await feedback, by client and ordinal. It allocates nothing.
@@ -95,45 +109,44 @@ impl Feedbacks {
         ensures list { out.new.list ≡ out.old.list ++ self.now.list }
         ensures room { out.old.spare ≡ out.new.spare + length self.now.list }
     {
-        put_all(&self.list, out);
+        let before = out.as_slice().len();
+        let keys = self.places.keys();
+        put_all(keys.as_slice(), out);
+        out.sort_from(before);
     }
-}
 
-/// Whether two submissions are the same.
-fn is_same(a: &Sub, b: &Sub) -> bool
-    ensures { result ≡ same_sub a.now b.now }
-{
-    a == b
-}
-
-/// Whether one submission comes before another, by client and then by ordinal.
-fn is_before(a: &Sub, b: &Sub) -> bool
-    ensures { result ≡ before a.now b.now }
-{
-    a.client < b.client || (a.client == b.client && a.ordinal < b.ordinal)
-}
-
-/// How many submissions of a list come before this one. Condition: the list is in order.
-fn place_in(list: &[Sub], s: &Sub) -> usize
-    requires { IsTrue (in_order list.now) }
-    ensures value { result ≡ place_in list.now s.now }
-    ensures bound { result ≤ length list.now }
-{
-    list.partition_point(|t| is_before(t, s))
-}
-
-/// The place of a submission in a list, if it is there. Condition: the list is in order.
-fn find(list: &[Sub], s: &Sub) -> Option<usize>
-    requires { IsTrue (in_order list.now) }
-    ensures there { is_some result ≡ is_open list.now s.now }
-    ensures place { IfSome result (λ place. place ≡ place_in list.now s.now) }
-    ensures bound { IfSome result (λ place. place < length list.now) }
-{
-    let place = place_in(list, s);
-    if place < list.len() && is_same(&list[place], s) {
-        return Some(place);
+    /// Adds a submission with its place in the order of acceptance. It returns `Memory` if an
+    /// allocation fails, and then nothing changes. If there is room for one, it returns Ok and
+    /// uses up no more than that. Condition: the submission is not in the list.
+    pub(crate) fn put(&mut self, s: Sub, place: u64) -> Result<(), Memory>
+        requires { IsFalse (is_open self.old.list s) }
+        ensures list { OnOk result (self.new.list ≡ opened s self.old.list) }
+        ensures places { OnOk result ((t : SubName) → lookup (same_sub t) self.new.places
+            ≡ (if same_sub s t then Some place else lookup (same_sub t) self.old.places)) }
+        ensures len { OnOk result (length self.new.places ≡ length self.old.places + 1) }
+        ensures err { OnErr result (self.new ≡ self.old) }
+        ensures succeeds { 0 < self.old.spare → IsOk result }
+        ensures spare { self.old.spare ≤ self.new.spare + 1 }
+    {
+        self.places.insert(s, place)?;
+        self.room = self.room.saturating_sub(1);
+        Ok(())
     }
-    None
+
+    /// Removes a submission as it gets its feedback. Returns its place, if it was in the list.
+    pub(crate) fn take(&mut self, s: Sub) -> Option<u64>
+        ensures value { result ≡ lookup (same_sub s) self.old.places }
+        ensures there { is_some result ≡ is_open self.old.list s }
+        ensures list { self.new.list ≡ fed s self.old.list }
+        ensures places { (t : SubName) → lookup (same_sub t) self.new.places
+            ≡ (if same_sub s t then None else lookup (same_sub t) self.old.places) }
+        ensures len { length self.new.places + (if is_some result then 1 else 0)
+            ≡ length self.old.places }
+        ensures unchanged { IfNone result (self.new ≡ self.old) }
+        ensures spare { self.old.spare ≤ self.new.spare }
+    {
+        self.places.swap_remove(&s)
+    }
 }
 
 /// Appends all of a list.

@@ -19,7 +19,6 @@ ghost use Rattle.vz_returns.specs.Notes.{IsNoted, IsAdded, noted, owed_count, wi
 use crate::Feedbacks;
 use crate::due::{Due, put_all, sort};
 use crate::ended::{Ended, dropped_by};
-use indexmap::IndexMap;
 use std::alloc::Global;
 use std::marker::Model;
 use vz_base::Memory;
@@ -36,31 +35,29 @@ use vz_rules::Fed;
 #[derive(Drop)]
 pub struct PendingFeedback {
     unfed: Feedbacks,
-    places: IndexMap<Sub, u64>,
     due: Vec<Due>,
     accepted: u64,
 }
 
 impl Model for PendingFeedback {
-    ghost use Rattle.std.specs.Prelude.{◌+◌, ◌-◌, length, vec_len, vec_capacity};
-    ghost use Rattle.indexmap.specs.IndexMap.{spare as spare_of};
+    ghost use Rattle.std.specs.Prelude.{◌+◌, ◌-◌, length, min, vec_len, vec_capacity};
     ghost use Rattle.vz_returns.specs.Owed.{OwedAndRoom};
-    ghost use Rattle.vz_returns.specs.Notes.{AreKept, room_for};
+    ghost use Rattle.vz_returns.specs.Notes.{AreKept};
 
     ghost Value = { OwedAndRoom };
 
     ghost view = { λ a. record {
       owed = record {
         unfed = a.unfed.list;
-        places = a.places.entries;
+        places = a.unfed.places;
         due = a.due.items;
         accepted = a.accepted;
       };
-      spare = room_for a.unfed.spare (spare_of a.places)
-          (vec_capacity a.due - vec_len a.due - length a.places.entries);
+      spare = min a.unfed.spare
+          (vec_capacity a.due - vec_len a.due - length a.unfed.places);
     } };
 
-    ghost invariant = { λ a. AreKept a.unfed.list a.places.entries
+    ghost invariant = { λ a. AreKept a.unfed.list a.unfed.places
         (vec_capacity a.due - vec_len a.due) };
 }
 
@@ -71,7 +68,6 @@ impl PendingFeedback {
     {
         PendingFeedback {
             unfed: Feedbacks::new(alloc),
-            places: IndexMap::new(alloc),
             due: Vec::new(alloc),
             accepted: 0,
         }
@@ -86,8 +82,7 @@ impl PendingFeedback {
         ensures spare { self.old.spare ≤ self.new.spare }
     {
         self.unfed.ready(1)?;
-        self.places.reserve(1)?;
-        self.due.try_reserve(self.places.len() + 1)?;
+        self.due.try_reserve(self.unfed.unfed() + 1)?;
         Ok(())
     }
 
@@ -205,10 +200,9 @@ impl PendingFeedback {
         let Some(sub) = sub else {
             return;
         };
-        let Some(place) = self.places.swap_remove(&sub) else {
+        let Some(place) = self.unfed.take(sub) else {
             return;
         };
-        self.unfed.feed(sub);
         self.due.push_reserved(Due {
             place,
             fed: Fed { sub, presented },
@@ -255,8 +249,7 @@ impl PendingFeedback {
         ensures count { owed_count self.new.owed ≡ owed_count self.old.owed + 1 }
         ensures spare { self.old.spare ≤ self.new.spare + 1 }
     {
-        self.places.insert(sub, self.accepted).unwrap();
-        self.unfed.add(sub).unwrap();
+        self.unfed.put(sub, self.accepted).unwrap();
         self.accepted += 1;
     }
 }

@@ -6,7 +6,7 @@ ghost use Rattle.vz_rules.specs.Step.{begin_answer, outcome_of};
 ghost use Rattle.vz_rules.specs.declared.entry.Reply.{Reply as Said};
 ghost use Rattle.vz_state.specs.Attached.{attached_sinks};
 
-use crate::world::World;
+use crate::world::{World, short};
 use std::alloc::AllocError;
 use vz_frame::{List, Room};
 use vz_ids::FrameSinkId;
@@ -61,10 +61,10 @@ impl<'a> World<'a> {
         make_room(&mut fed, self.unfed())?;
         self.feed(&[], &mut fed);
         let effects = Effects {
-            activated: List::from_vec(activated),
-            destroyed: List::from_vec(destroyed),
-            returned: returned.into_list(),
-            fed: fed.into_list(),
+            activated: short(self.alloc, List::from_vec(activated))?,
+            destroyed: short(self.alloc, List::from_vec(destroyed))?,
+            returned: short(self.alloc, returned.into_list())?,
+            fed: short(self.alloc, fed.into_list())?,
         };
         let Ok(effects) = BoxedEffects::new(self.alloc, effects) else {
             return Err(AllocError);

@@ -9,7 +9,7 @@ ghost use Rattle.vz_state.specs.Changes.{changed_by};
 ghost use Rattle.vz_state.specs.Fitting.{FitsSome};
 ghost use Rattle.vz_state.specs.Small.{AreSmallClients, IsSmall};
 
-use crate::world::World;
+use crate::world::{World, short};
 use std::alloc::{AllocError, Global};
 use vz_frame::{List, Message};
 use vz_ids::{FrameSinkId, LocalSurfaceId, SurfaceId};
@@ -87,7 +87,8 @@ impl<'a> World<'a> {
             ≡ says (reply.Reclaimed x.queue) (taking reclaim x self.old)) }
     {
         self.change(c, &Change::Reclaim)?;
-        Ok(Reply::Reclaimed(List::from_vec(queue)))
+        let queue = short(self.alloc, List::from_vec(queue))?;
+        Ok(Reply::Reclaimed(queue))
     }
 
     /// The first client names the root surface, which need not exist.

@@ -16,7 +16,7 @@ use std::mem;
 use vz_frame::{List, Room};
 use vz_ids::SurfaceId;
 use vz_pixels::Memory;
-use vz_rules::{BoxedEffects, Effects, EffectsRoom, Event, Fed, Plan, Reply, Rest, Returned};
+use vz_rules::{BoxedEffects, EffectsRoom, Event, Fed, Plan, Reply, Rest, Returned};
 use vz_scene::SubmittedFrame;
 use vz_state::{Client, active_frames, make_room};
 
@@ -314,13 +314,10 @@ fn done(
             let mut told = mem::replace(fed, Room::new(alloc));
             world.give_back(&mut queued);
             world.feed(presented.as_slice(), &mut told);
-            let effects = Effects {
-                activated: List::new(alloc),
-                destroyed: List::new(alloc),
-                returned: queued.into_list(),
-                fed: told.into_list(),
-            };
-            (Reply::Shown, room.fill(effects))
+            let mut activated = Room::new(alloc);
+            let mut destroyed = Room::new(alloc);
+            let effects = room.fill(&mut activated, &mut destroyed, &mut queued, &mut told);
+            (Reply::Shown, effects)
         }
     }
 }

@@ -1,7 +1,9 @@
 //! The state of the plain machine.
-use std::alloc::Global;
+ghost use Rattle.std.specs.Prelude.{◌≡◌, IfOk};
+
+use std::alloc::{AllocError, Global};
 use std::marker::Model;
-use vz_frame::List;
+use vz_frame::{List, ShortList};
 use vz_ids::{FrameSinkId, Sub, SurfaceId};
 use vz_scene::Aggregation;
 use vz_state::{Client, Submission, Surface};
@@ -38,4 +40,11 @@ impl<'a> Model for World<'a> {
       last = m.last;
       over = m.over;
     } };
+}
+
+/// Makes a short list of a list's values.
+pub(crate) fn short<T: Drop>(alloc: Global, list: List<T>) -> Result<ShortList<T>, AllocError>
+    ensures { IfOk result (λ short. short ≡ list) }
+{
+    ShortList::from_list(alloc, list).map_err(|_| AllocError)
 }

@@ -8,7 +8,7 @@ ghost use Rattle.vz_support.specs.Sent.{block_in, knows, blocks_in};
 use indexmap::IndexMap;
 use std::alloc::Global;
 use vz_base::Memory;
-use vz_frame::{List, Listing};
+use vz_frame::{List, Listing, ShortList};
 use vz_pixels::PixelBlock;
 
 /// The pixel blocks that a client uploaded, each under its resource id.
@@ -75,14 +75,27 @@ impl Blocks {
         &self,
         alloc: Global,
         listings: &[Listing],
-    ) -> Result<List<PixelBlock>, Memory>
+    ) -> Result<ShortList<PixelBlock>, Memory>
         ensures { IfOk result (λ list. list ≡ blocks_in self.now.blocks.entries listings.now) }
     {
+        if listings.len() == 1 {
+            return shared(self.get(listings[0].id));
+        }
         let mut list = Vec::with_capacity(alloc, listings.len())?;
         for listing in listings {
             push_shared(&mut list, self.get(listing.id))?;
         }
-        Ok(List::from_vec(list))
+        ShortList::from_list(alloc, List::from_vec(list))
+    }
+}
+
+/// A list of this block alone, if there is one. It is shared: no pixel is copied.
+fn shared(block: Option<&PixelBlock>) -> Result<ShortList<PixelBlock>, Memory>
+    ensures { IfOk result (λ list. list ≡ option_to_list (option_copied block.entry)) }
+{
+    match block {
+        None => Ok(ShortList::new()),
+        Some(block) => Ok(ShortList::one(block.share()?)),
     }
 }
 

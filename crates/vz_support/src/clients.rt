@@ -13,7 +13,7 @@ use crate::client::Client;
 use std::alloc::Global;
 use std::marker::Model;
 use vz_base::Memory;
-use vz_frame::{ClientFile, List, Listing, Message};
+use vz_frame::{ClientFile, Listing, Message, ShortList};
 use vz_ids::FrameSinkId;
 use vz_pixels::PixelBlock;
 
@@ -183,7 +183,7 @@ impl Clients {
         alloc: Global,
         c: u32,
         listings: &[Listing],
-    ) -> Result<List<PixelBlock>, Memory>
+    ) -> Result<ShortList<PixelBlock>, Memory>
         requires some { 1 ≤ c }
         requires known { c ≤ length self.now }
         ensures { IfOk result (λ l. l ≡ blocks_in (sender_at self.now c).blocks listings.now) }

@@ -17,7 +17,7 @@ use crate::own_messages::note;
 use crate::support::Support;
 use std::alloc::Global;
 use vz_base::Memory;
-use vz_frame::{BoxedFrame, List, Listing, Message};
+use vz_frame::{BoxedFrame, Listing, Message, ShortList};
 use vz_ids::{FrameSinkId, LocalSurfaceId};
 use vz_pixels::PixelBlock;
 
@@ -97,7 +97,7 @@ impl Support {
         alloc: Global,
         c: u32,
         listings: &[Listing],
-    ) -> Result<List<PixelBlock>, Memory>
+    ) -> Result<ShortList<PixelBlock>, Memory>
         requires some { 1 ≤ c }
         requires known { c ≤ length self.now.clients }
         ensures { (p : Plan) (w : World) (x : Client) (frame : Frame)

@@ -37,17 +37,8 @@ module _ (w : World) (but : Option SurfaceId) (s : Submission) (sub : Sub) (v : 
   abbrev acting : Option Submission
   acting = find (λ t. is_active t && is_on s.submitted.id t) w.subs
 
-  pub found_on : (r : Option SurfaceId) → ((x : Submission) → Contains v.store.subs x → is_waiting x ≡ true → sub_of x ≡ sub → r ≡ Some x.submitted.id) → r ≡ Some s.submitted.id
-  found_on r f = f (bare_sub s) (subst (λ (st : Stored). Contains st.subs (bare_sub s)) (sym h.live.store) (waits_stored w s h.known)) h.waits h.name
-
-  pub id_is : (id : SurfaceId) → ((x : Submission) → Contains v.store.subs x → is_waiting x ≡ true → sub_of x ≡ sub → Some id ≡ Some x.submitted.id) → id ≡ s.submitted.id
-  id_is id f = some_same (found_on (Some id) f)
-
-  pub none_missing : ((x : Submission) → Contains v.store.subs x → is_waiting x ≡ true → sub_of x ≡ sub → ◌≡◌ {A = Option SurfaceId} None (Some x.submitted.id)) → ⊥
-  none_missing f = no (found_on None f)
-    where
-      no : ◌≡◌ {A = Option SurfaceId} None (Some s.submitted.id) → ⊥
-      no e = cc
+  pub id_is : (id : SurfaceId) → ((x : Submission) → Contains v.store.subs x → is_waiting x ≡ true → sub_of x ≡ sub → id ≡ x.submitted.id) → id ≡ s.submitted.id
+  id_is id f = f (bare_sub s) (subst (λ (st : Stored). Contains st.subs (bare_sub s)) (sym h.live.store) (waits_stored w s h.known)) h.waits h.name
 
   pub acts_is : (o : Option Held) (id : SurfaceId) → id ≡ s.submitted.id → o ≡ option_map held_of (active_on v.store id) → o ≡ frame_of acting
   acts_is o id e f = acts_in w v.store s.submitted.id o h.always h.live.store (f ∙ ap (λ i. option_map held_of (active_on v.store i)) e)
@@ -60,16 +51,10 @@ module _ (w : World) (but : Option SurfaceId) (s : Submission) (sub : Sub) (v : 
       let c = client_of w s h.always h.known in
       subst (λ n. IsLender n v.lent) (c.2 ∙ ap (λ (x : Sub). x.client) h.name) (lends w c.0 v.lent h.always c.1 h.live.lent)
 
-  pub waits_is : (o : Option Held) (id : SurfaceId) → id ≡ s.submitted.id → o ≡ option_map held_of (waiting_at v.store id) → o ≡ Some (held_of s.submitted)
+  waits_is : (o : Option Held) (id : SurfaceId) → id ≡ s.submitted.id → o ≡ option_map held_of (waiting_at v.store id) → o ≡ Some (held_of s.submitted)
   waits_is o id e f =
       waits_in w v.store s.submitted.id o h.always h.live.store (f ∙ ap (λ i. option_map held_of (waiting_at v.store i)) e)
       ∙ ap frame_of (waits_alone w s h.always h.known h.waits)
-
-  pub none_waits : (id : SurfaceId) → id ≡ s.submitted.id → None ≡ option_map held_of (waiting_at v.store id) → ⊥
-  none_waits id e f = no (waits_is None id e f)
-    where
-      no : ◌≡◌ {A = Option Held} None (Some (held_of s.submitted)) → ⊥
-      no g = cc
 
   pub ranges_are : (x : Held) (id : SurfaceId) → id ≡ s.submitted.id → Some x ≡ option_map held_of (waiting_at v.store id) → x.frame.metadata.references ≡ s.submitted.frame.metadata.references
   ranges_are x id e f = ap (λ (y : Held). y.frame.metadata.references) (some_same (waits_is (Some x) id e f))

@@ -25,12 +25,12 @@ ghost use Rattle.vz_surface_manager.specs.Changes.{IsRising, IsGoing, IsNew};
 use crate::ended_subs::{ended_in, listings_of, name_of, wanted_by};
 use crate::live::LiveSurfaces;
 use vz_base::Memory;
-use vz_frame::{BoxedFrame, CompositorFrame, List, Room};
+use vz_frame::{BoxedFrame, CompositorFrame, Room, ShortList};
 use vz_ids::{FrameSinkId, LocalSurfaceId, Sub, SurfaceId};
 use vz_pixels::PixelBlock;
 use vz_refs::References;
 use vz_rules::{Fed, Returned};
-use vz_surfaces::Gone;
+use vz_surfaces::{Gone, Rising};
 
 /// What a submission was accepted as.
 #[derive(Clone, Copy, Debug, PartialEq, Eq)]
@@ -101,7 +101,7 @@ impl LiveSurfaces {
         sink: FrameSinkId,
         local: LocalSurfaceId,
         frame: BoxedFrame,
-        blocks: List<PixelBlock>,
+        blocks: ShortList<PixelBlock>,
     ) -> Result<Accepted, BoxedFrame>
         requires accepts { (p : Plan) × (w : World) × (c : Client)
             × IsAccepting p w c client sink local frame blocks self.old }
@@ -175,16 +175,14 @@ impl LiveSurfaces {
         ensures room { self.old.kept.room ≤ self.new.kept.room }
         ensures temporary { length self.new.kept.temporary ≤ length self.old.kept.temporary }
     {
-        let Some(id) = self.store.waits_on(sub) else {
-            unreachable!()
-        };
-        let past = self.store.active(&id);
-        self.lending.past(sub.client, listings_of(past));
-        self.feeding.activate(ended_in(&self.flight, past));
-        let Some(risen) = self.store.waiting(&id) else {
-            unreachable!()
-        };
-        let ranges = risen.frame.frame().metadata.references.as_slice();
+        let Rising {
+            id,
+            waiting,
+            active,
+        } = self.store.rising(sub);
+        self.lending.past(sub.client, listings_of(active));
+        self.feeding.activate(ended_in(&self.flight, active));
+        let ranges = waiting.frame.frame().metadata.references.as_slice();
         self.references.set(id, ranges).unwrap();
         self.wanted -= ranges.len() + 1;
         self.damage.activated(&id);

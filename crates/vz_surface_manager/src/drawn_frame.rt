@@ -26,6 +26,9 @@ use vz_returns::Lenders;
 use vz_rules::Fed;
 use vz_surfaces::Store;
 
+/// The least number of places for the feedback of a drawn frame.
+const FEW: usize = 5;
+
 /// What is known of the reply to a draw before the walk.
 #[derive(Clone, Copy)]
 pub enum Look {
@@ -136,7 +139,7 @@ impl LiveSurfaces {
         ensures room { OnOk result (flying_count self.new.flight ≤ fed.new.spare) }
         ensures list { fed.new.list ≡ fed.old.list }
     {
-        fed.reserve(flight.len())?;
+        fed.reserve(flight.len().max(FEW))?;
         let roster = flight.roster();
         let Some(listings) = roster.listings() else {
             return Err(Memory);

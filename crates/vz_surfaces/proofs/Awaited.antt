@@ -1,11 +1,14 @@
 -- What waits is found by its surface and by its name.
 use Rattle.std.proofs.Common.{arith, ◌≡◌, true, Option, Some, None, is_some, find, refl, ap, sym, ◌∙◌, ◌&&◌, Contains}
 use Rattle.std.proofs.lemmas.Bool.Decides.{nat_tests}
-use Rattle.std.proofs.lemmas.Bool.{both_ways}
+use Rattle.std.proofs.lemmas.Bool.{both_ways, and_from}
 use Rattle.std.specs.Option.{option_map}
 use Rattle.vz_ids.specs.declared.SurfaceId.{SurfaceId}
 use Rattle.vz_ids.specs.declared.Sub.{Sub}
+use Rattle.vz_ids.specs.Ids.{same_surface}
 use Rattle.vz_rules.specs.World.{FrameData, Submission, Surface as Created, is_waiting, is_on, sub_of}
+use Rattle.vz_rules.proofs.Reached.{self_same}
+use Rattle.vz_rules.proofs.Members.{found, any_from}
 use Rattle.vz_surfaces.specs.declared.held.Held.{Held}
 use Rattle.vz_surfaces.specs.declared.table.Surface.{Surface}
 use Rattle.vz_surfaces.specs.declared.table.Table.{Table}
@@ -15,7 +18,7 @@ use Rattle.vz_surfaces.specs.Stored.{Stored}
 use Rattle.vz_surfaces.specs.Reading.{standing, held_of, waiting_at}
 use Rattle.vz_surfaces.specs.Memory.{look, kept_of, surface_at, waits_on, is_waiting_in, Keeps}
 use Rattle.vz_surfaces.proofs.Indexed.{named_at}
-use Rattle.vz_surfaces.proofs.Raising.{same_names}
+use Rattle.vz_surfaces.proofs.Raising.{same_names, waiting_one}
 
 twice : (o : Option Submission) → option_map (λ (s : Submission). held_of s.submitted) o ≡ option_map held_of (option_map (λ (s : Submission). s.submitted) o)
 twice None = refl
@@ -43,6 +46,24 @@ some_by st id s (Some c) e = ap (λ (z : Surface). z.waiting) (some_same e) ∙ 
 pub waiting_some : (t : Table) (w : Waits) (o : Owners) (st : Stored) (id : SurfaceId) (s : Surface) → Keeps t w o st → Some s ≡ look t id → s.waiting ≡ option_map held_of (waiting_at st id)
 unfolding waiting_at surface_at
 waiting_some t w o st id s h e = some_by st id s (standing id st.surfaces) (e ∙ h.table.surfaces id)
+
+no_held : (o : Option Submission) → is_some o ≡ true → None ≡ option_map (λ (s : Submission). held_of s.submitted) o → ⊥
+no_held None e f = absurd (cc)
+no_held (Some s) e f = absurd (cc)
+
+-- the surface that the index has for a submission has one that waits
+pub waits_here : (t : Table) (w : Waits) (o : Owners) (st : Stored) (sub : Sub) (id : SurfaceId) (s : Surface) → Keeps t w o st → is_waiting_in st sub ≡ true → Some id ≡ waits_on w sub → Some s ≡ look t id → None ≡ s.waiting → ⊥
+unfolding surface_at
+waits_here t w o st sub id s h waits at e none =
+    let x = waiting_one st sub waits in
+    let on : x.0.submitted.id ≡ id = some_same (sym (h.waits.found x.0 x.1.there x.1.waits) ∙ (ap (waits_on w) x.2 ∙ sym at)) in
+    by (standing id st.surfaces) (e ∙ h.table.surfaces id)
+    (found (λ s. is_waiting s && is_on id s) st.subs
+    ∙ any_from (λ s. is_waiting s && is_on id s) st.subs x.0 x.1.there (and_from (is_waiting x.0) (is_on id x.0) x.1.waits (ap (λ i. same_surface i id) on ∙ self_same id)))
+  where
+    by : (c : Option Created) → Some s ≡ option_map (kept_of id st.subs) c → is_some (find (λ s. is_waiting s && is_on id s) st.subs) ≡ true → ⊥
+    by None f g = absurd (cc)
+    by (Some c) f g = no_held (find (λ s. is_waiting s && is_on id s) st.subs) g (none ∙ ap (λ (z : Surface). z.waiting) (some_same f))
 
 -- the index has the surface of each submission that waits
 pub waits_there : (t : Table) (w : Waits) (o : Owners) (st : Stored) (sub : Sub) (r : Option SurfaceId) → Keeps t w o st → r ≡ waits_on w sub

@@ -19,6 +19,7 @@ use Rattle.vz_rules.specs.Kept.{last_in, stands_in, is_surface_of, is_by}
 use Rattle.vz_rules.proofs.Reached.{from_same, self_same}
 use Rattle.vz_rules.proofs.Counts.{count_less, count_none}
 use Rattle.vz_surfaces.specs.declared.told.Acceptance.{Acceptance}
+use Rattle.vz_surfaces.specs.declared.groups.Link.{Link}
 use Rattle.vz_surfaces.specs.declared.held.Held.{Held}
 use Rattle.vz_surfaces.specs.declared.table.Surface.{Surface}
 use Rattle.vz_surfaces.specs.declared.table.Table.{Table}
@@ -170,11 +171,14 @@ module _ (st : Stored) (c : ℕ) (sink : FrameSinkId) (local : LocalSurfaceId) (
                 ∙ (ap (λ (b : Bool). existing_count st + cond b 0 1) that ∙ sym (stored_count st c sink local frame blocks)))));
             keyed = keyed;
           };
-          waits = stored_waits st c sink local frame blocks w1 w2 w3 replaced keeps (record { found = λ s p e. ap (lookup (is_name (sub_of s))) names ∙ h.waits.found s p e; only = λ q e. h.waits.only q (ap (λ l. is_some (lookup (is_name q) l)) (sym names) ∙ e) }) gone none some
+          waits = stored_waits st c sink local frame blocks w1 w2 w3 replaced keeps (record { found = λ s p e. at_name (sub_of s) names ∙ h.waits.found s p e; only = λ q e. h.waits.only q (ap is_some (sym (at_name q names)) ∙ e) }) gone none some
               (λ q. put q ∙ ap (λ n. cond (is_name (record { client = c; ordinal = n + 1 }) q) (Some this) (waits_on w2 q)) accepted);
           owners = stored_owners st c sink local frame blocks o0 o1 last size owned number h.owners named fits (is ∙ ap (counting last local size) own) set;
         }
       where
+        at_name : (q : Sub) → w1.surfaces.entries ≡ w0.surfaces.entries → waits_on w1 q ≡ waits_on w0 q
+        at_name q e = ap (λ l. option_map (λ (x : Link). x.id) (lookup (is_name q) l)) e
+
         by : (q : SurfaceId) (b : Bool) → same_surface this q ≡ b → (z : Option Surface) → z ≡ look t2 q → last ≡ is_that → owner.created ≡ count_by (is_surface_of c) st.surfaces → ((q : SurfaceId) → look t1 q ≡ surface_at st q)
             → cond (is_key this q) (option_map (holding (record { client = c; ordinal = count_by (is_by c) st.subs + 1 }) frame blocks) (look t2 q)) (look t2 q) ≡ surface_at (storing c sink local frame blocks st) q
         by q true e z f that created before =

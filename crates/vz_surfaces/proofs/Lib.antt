@@ -23,6 +23,7 @@ mod Shown
 mod Found_links
 pub mod Seeing
 mod Awaited
+mod Awaiting
 mod Marking
 mod Numbering
 pub mod Listing

@@ -1,5 +1,5 @@
 -- The surfaces of each client that exist, over the changes of a store, and those of them that are marked.
-use Rattle.std.proofs.Common.{◌≡◌, ℕ, zero, suc, ◌+◌, ◌≤◌, Bool, true, false, not, ◌&&◌, ◌==◌, nat_le, nat_eq, List, [], ◌∷◌, ◌++◌, map, filter, length, refl, ap, sym, ◌∙◌, arith, cond, subst, Contains, append-nil, append_assoc, count_by}
+use Rattle.std.proofs.Common.{◌≡◌, ℕ, zero, suc, ◌+◌, ◌-◌, ◌≤◌, Bool, true, false, not, ◌&&◌, ◌==◌, nat_le, nat_eq, List, [], ◌∷◌, ◌++◌, map, filter, length, refl, ap, sym, ◌∙◌, arith, cond, subst, Contains, append-nil, append_assoc, count_by}
 use Rattle.std.proofs.lemmas.List.{map-append, length-append, length-map}
 use Rattle.std.proofs.lemmas.List.Elements.{filter-append}
 use Rattle.std.proofs.lemmas.Bool.{and_parts, eqb-true}
@@ -20,7 +20,7 @@ use Rattle.vz_surfaces.specs.Reading.{existing_count, marked_of, marked_to}
 use Rattle.vz_surfaces.specs.declared.standing.Numbered.{Numbered}
 use Rattle.vz_surfaces.specs.declared.standing.Standing.{Standing}
 use Rattle.vz_surfaces.specs.declared.owners.Owners.{Owners}
-use Rattle.vz_surfaces.specs.Memory.{owner_at, HasNumber, KeepsOwners, KeepsMarks}
+use Rattle.vz_surfaces.specs.Memory.{owner_at, HasNumber, KeepsOwners, KeepsMarks, MarksUpTo}
 use Rattle.vz_surfaces.specs.Numbers.{list_at, Rises, numbered_of, KeepsLists}
 use Rattle.vz_surfaces.proofs.Telling.{read_same, filter_all}
 use Rattle.vz_surfaces.proofs.Others.{never}
@@ -253,3 +253,39 @@ module _ (s : Standing) (o : Owners) (st : Stored) (h : KeepsLists s st) (hm : K
 pub put_none : (first : List SurfaceId) (n : ℕ) (st : Stored) → (first ≡ first ++ marked_to 0 st) × (n ≡ n + length (marked_to 0 st))
 unfolding marked_to
 put_none first n st = (sym (append-nil first), omega arith)
+
+-- where no surface of a client is marked none is listed
+none_listed : (s : Standing) (o : Owners) (st : Stored) (q : ℕ) → KeepsLists s st → KeepsMarks o st → (owner_at o q).marked_to ≡ 0 → marked_of q st ≡ []
+none_listed s o st q h hm e =
+    sym (front_marked s o st q h hm)
+    ∙ (ap (λ n. map (λ (x : Numbered). x.id) (filter (λ (x : Numbered). nat_le x.number n) (list_at s q))) e ∙ ap (map (λ (x : Numbered). x.id)) (none (list_at s q) (numbers_begin s o st q h hm)))
+  where
+    low : (n : ℕ) → 1 ≤ n → nat_le n 0 ≡ false
+    low n l = grind (arith, nat_tests)
+
+    none : (xs : List Numbered) → ((x : Numbered) → Contains xs x → 1 ≤ x.number) → filter (λ (x : Numbered). nat_le x.number 0) xs ≡ []
+    none [] f = refl
+    none (x ∷ xs) f =
+        ap (λ (b : Bool). cond b (x ∷ filter (λ (y : Numbered). nat_le y.number 0) xs) (filter (λ (y : Numbered). nat_le y.number 0) xs)) (low x.number (f x (contains_here x xs)))
+        ∙ none xs (λ y c. f y (contains_there x y xs c))
+
+-- those of the clients above are none
+none_above : (s : Standing) (o : Owners) (st : Stored) (d : ℕ) → KeepsLists s st → KeepsMarks o st → MarksUpTo o → o.marking + d ≤ 16 → marked_to (o.marking + d) st ≡ marked_to o.marking st
+none_above s o st zero h hm up l = ap (λ n. marked_to n st) (plain o.marking)
+  where
+    plain : (n : ℕ) → n + 0 ≡ n
+    plain n = omega arith
+none_above s o st (suc d) h hm up l =
+    ap (λ n. marked_to n st) (next o.marking d)
+    ∙ (marked_next (o.marking + d) st
+    ∙ (ap (λ l. marked_to (o.marking + d) st ++ l) (none_listed s o st (o.marking + d + 1) h hm (up.above (o.marking + d + 1) (omega arith, omega (arith, l)) (omega arith)))
+    ∙ (append-nil (marked_to (o.marking + d) st) ∙ none_above s o st d h hm up (omega (arith, l)))))
+  where
+    next : (n d : ℕ) → n + suc d ≡ n + d + 1
+    next n d = omega arith
+
+-- those of the clients up to the last one that has marked surfaces are all
+pub marked_whole : (s : Standing) (o : Owners) (st : Stored) (n : ℕ) → KeepsLists s st → KeepsMarks o st → MarksUpTo o → n ≡ o.marking → marked_to 16 st ≡ marked_to n st
+marked_whole s o st n h hm up e =
+    let whole : o.marking + (16 - o.marking) ≡ 16 = omega (arith, up.most) in
+    ap (λ k. marked_to k st) (sym whole) ∙ (none_above s o st (16 - o.marking) h hm up (omega (arith, whole)) ∙ ap (λ k. marked_to k st) (sym e))

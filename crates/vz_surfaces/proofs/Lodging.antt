@@ -119,3 +119,11 @@ no_key t h id none = by (key_at t id) refl none
     by : (o : Option ℕ) → key_at t id ≡ o → option_and_then (under t) o ≡ None → o ≡ None
     by None e f = refl
     by (Some k) e f = absurd (both_ways (is_some (under t k)) (ap is_some f) (h.there id k e))
+
+-- under the key of an id there is a surface
+pub stands_under : (t : Table) → IsKeyed t → (id : SurfaceId) (key : ℕ) → key_at t id ≡ Some key → None ≡ under t key → ⊥
+stands_under t h id key e none = absurd (both_ways (is_some (under t key)) (ap is_some (sym none)) (h.there id key e))
+
+-- the surface of an id is that under its key
+pub under_is : (t : Table) (id : SurfaceId) (key : ℕ) → key_at t id ≡ Some key → look t id ≡ under t key
+under_is t id key e = ap (option_and_then (under t)) e

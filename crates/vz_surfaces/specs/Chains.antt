@@ -6,6 +6,7 @@ use Rattle.std.specs.Map.{lookup}
 use Rattle.vz_ids.specs.declared.LocalSurfaceId.{LocalSurfaceId}
 use Rattle.vz_ids.specs.declared.SurfaceId.{SurfaceId}
 use Rattle.vz_ids.specs.declared.SurfaceRange.{SurfaceRange}
+use Rattle.vz_ids.specs.declared.Sub.{Sub}
 use Rattle.vz_ids.specs.contracts.GroupKeyPartialEq.TheImpl.{eq-value as group_eq}
 use Rattle.vz_ids.specs.Ids.{same_sink, same_group, newer, at_least, group_of}
 use Rattle.vz_rules.specs.World.{Surface as Created, Submission}
@@ -20,7 +21,7 @@ use Rattle.vz_surfaces.specs.Stored.{Stored}
 use Rattle.vz_surfaces.specs.Reading.{was_reached}
 use Rattle.vz_surfaces.specs.declared.waits.Waits.{Waits}
 use Rattle.vz_surfaces.specs.declared.owners.Owners.{Owners}
-use Rattle.vz_surfaces.specs.Memory.{key_at, under, Keeps, KeepsMarks}
+use Rattle.vz_surfaces.specs.Memory.{key_at, under, link_on, Keeps, KeepsMarks, MarksUpTo}
 
 -- two surfaces are in one group, as maps test it
 abbrev pub is_group : SurfaceId → SurfaceId → Bool
@@ -86,6 +87,10 @@ pub record KeepsGroups (g : Groups) (st : Stored) : Type 0 where
 pub record KeepsLinks (t : Table) (g : Groups) : Type 0 where
   pub keys : (q : SurfaceId) (l : Link) → Contains (links_at g q) l → key_at t l.id ≡ Some l.key
 
+-- each surface on which a submission waits is in the table under the key of its link
+pub record KeepsAwaited (t : Table) (w : Waits) : Type 0 where
+  pub keys : (sub : Sub) (l : Link) → link_on w sub ≡ Some l → key_at t l.id ≡ Some l.key
+
 -- the link that was found, if its surface passes the test
 abbrev pub that_passes : (SurfaceId → Bool) → Option Link → Option Link
 that_passes test None = None
@@ -119,4 +124,6 @@ pub record Stands (t : Table) (w : Waits) (o : Owners) (g : Groups) (st : Stored
   pub kept : Keeps t w o st
   pub groups : KeepsGroups g st
   pub links : KeepsLinks t g
+  pub awaited : KeepsAwaited t w
   pub marks : KeepsMarks o st
+  pub marking : MarksUpTo o

@@ -17,6 +17,7 @@ use Rattle.vz_pixels.specs.Block.{Block}
 use Rattle.vz_frame.specs.declared.frame.CompositorFrame.{CompositorFrame}
 use Rattle.vz_rules.specs.World.{Surface as Created, Submission, is_waiting, is_active, is_on, sub_of}
 use Rattle.vz_rules.specs.Kept.{is_by, is_surface_of}
+use Rattle.vz_surfaces.specs.declared.groups.Link.{Link}
 use Rattle.vz_surfaces.specs.declared.held.Held.{Held}
 use Rattle.vz_surfaces.specs.declared.table.Surface.{Surface}
 use Rattle.vz_surfaces.specs.declared.table.Table.{Table}
@@ -98,9 +99,13 @@ pub record KeepsTable (t : Table) (st : Stored) : Type 0 where
 abbrev pub is_name : Sub → Sub → Bool
 is_name = sub_eq.it
 
+-- the surface on which a submission waits, with its key, if the index has it
+abbrev pub link_on : Waits → Sub → Option Link
+link_on w sub = lookup (is_name sub) w.surfaces.entries
+
 -- the surface on which a submission waits, if the index has it
 abbrev pub waits_on : Waits → Sub → Option SurfaceId
-waits_on w sub = lookup (is_name sub) w.surfaces.entries
+waits_on w sub = option_map (λ (l : Link). l.id) (link_on w sub)
 
 -- the submission with this name waits
 unfoldable pub is_waiting_in : Stored → Sub → Bool
@@ -122,6 +127,11 @@ owner_at o c = get_or o.owners (c - 1) no_owner
 -- the client's number is one that plans can have
 abbrev pub HasNumber : ℕ → Type 0
 HasNumber c = (1 ≤ c) × (c ≤ 16)
+
+-- no client above a number, which is not above 16, has marked surfaces
+pub record MarksUpTo (o : Owners) : Type 0 where
+  pub most : o.marking ≤ 16
+  pub above : (c : ℕ) → HasNumber c → o.marking < c → (owner_at o c).marked_to ≡ 0
 
 -- the counts of all clients are right
 pub record KeepsOwners (o : Owners) (st : Stored) : Type 0 where

@@ -1,6 +1,6 @@
 //! What the store keeps of a submission, and what its calls return.
 use crate::named::NamedFrame;
-use vz_frame::List;
+use vz_frame::ShortList;
 use vz_ids::Sub;
 use vz_pixels::PixelBlock;
 use vz_rules::Lost;
@@ -15,7 +15,7 @@ pub struct Held {
     /// Its frame, with the places to which the names in its quads lead.
     pub frame: NamedFrame,
     /// The pixel block of each listed resource of the frame, in the order of the listings.
-    pub blocks: List<PixelBlock>,
+    pub blocks: ShortList<PixelBlock>,
 }
 
 /// What the store returns for an accepted submission.

@@ -6,11 +6,13 @@
 #![tactic(auto)]
 
 mod groups;
+mod growing;
 mod held;
 pub mod laws;
 mod marks;
 mod named;
 mod owners;
+mod rising;
 mod seen;
 mod showing;
 mod standing;
@@ -21,5 +23,6 @@ mod waits;
 
 pub use held::{Gone, Held, Taken};
 pub use named::NamedFrame;
+pub use rising::Rising;
 pub use seen::Seen;
 pub use store::Store;

@@ -1,6 +1,6 @@
 //! The counts that are kept for each client.
 ghost use Rattle.std.specs.Prelude.{◌≡◌, ◌≤◌, ◌<◌, ◌+◌, ℕ, Some, None, if◌then◌else◌, ◌==◌};
-ghost use Rattle.vz_surfaces.specs.Memory.{owner_at, no_owner, counting, is_named_last, marked_up};
+ghost use Rattle.vz_surfaces.specs.Memory.{owner_at, no_owner, counting, is_named_last, marked_up, MarksUpTo};
 
 use vz_geom::Size;
 use vz_ids::LocalSurfaceId;
@@ -63,12 +63,15 @@ impl Owner {
 #[derive(Drop)]
 pub(crate) struct Owners {
     owners: [Owner; 16],
+    /// No client with a number above this one has marked surfaces.
+    marking: u32,
 }
 
 impl Owners {
     /// The counts before any submission is accepted.
     pub(crate) fn new() -> Owners
-        ensures { (q : ℕ) → owner_at result q ≡ no_owner }
+        ensures owners { (q : ℕ) → owner_at result q ≡ no_owner }
+        ensures marking { MarksUpTo result }
     {
         let owner = Owner {
             accepted: 0,
@@ -78,7 +81,15 @@ impl Owners {
         };
         Owners {
             owners: [owner; 16],
+            marking: 0,
         }
+    }
+
+    /// The number above which no client has marked surfaces.
+    pub(crate) fn marking(&self) -> u32
+        ensures { result ≡ self.now.marking }
+    {
+        self.marking
     }
 
     /// The counts of a client. Condition: its number is 1 to 16.
@@ -94,9 +105,24 @@ impl Owners {
     pub(crate) fn set(&mut self, c: u32, owner: Owner)
         requires least { 1 ≤ c }
         requires most { c ≤ 16 }
-        ensures { (q : ℕ) → 1 ≤ q → owner_at self.new q
+        ensures owners { (q : ℕ) → 1 ≤ q → owner_at self.new q
             ≡ (if q == c then owner else owner_at self.old q) }
+        ensures marking { MarksUpTo self.old → MarksUpTo self.new }
     {
+        self.marking = marking_with(self.marking, c, owner.marked_to);
         self.owners[(c - 1) as usize] = owner;
     }
+}
+
+/// The number above which no client has marked surfaces, once those of client `c` are marked up to
+/// `marked_to`.
+fn marking_with(marking: u32, c: u32, marked_to: u32) -> u32
+    ensures least { marking ≤ result }
+    ensures client { 0 < marked_to → c ≤ result }
+    ensures most { c ≤ 16 → marking ≤ 16 → result ≤ 16 }
+{
+    if marked_to == 0 || c <= marking {
+        return marking;
+    }
+    c
 }

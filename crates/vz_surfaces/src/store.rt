@@ -1,9 +1,7 @@
 //! The store of surfaces and submissions.
-ghost use Rattle.std.specs.Prelude.{◌≡◌, ◌≤◌, ◌<◌, ◌+◌, ◌++◌, ◌∷◌, ◌&&◌, [], ℕ, not, if◌then◌else◌, length, Some, None, is_some, count_by, false, IsTrue, IfOk, OnOk, OnErr, IfErr};
+ghost use Rattle.std.specs.Prelude.{◌≡◌, ◌≤◌, ◌<◌, ◌+◌, ◌++◌, length, Some, None, is_some, count_by, false, IsTrue, IfOk, OnOk, OnErr, IfErr};
 ghost use Rattle.std.specs.List.{Contains};
 ghost use Rattle.std.specs.Option.{option_copied, option_map};
-ghost use Rattle.indexmap.specs.IndexMap.{spare as spare_of};
-ghost use Rattle.vz_ids.specs.declared.SurfaceId.{SurfaceId as Id};
 ghost use Rattle.vz_rules.specs.World.{Surface, Submission, is_on, is_waiting, sub_of};
 ghost use Rattle.vz_rules.specs.Messages.{violates, is_last};
 ghost use Rattle.vz_rules.specs.Scene.{shown_frame};
@@ -11,15 +9,15 @@ ghost use Rattle.vz_rules.specs.Kept.{is_by, last_in};
 ghost use Rattle.vz_surfaces.specs.Stored.{nothing_stored, surface_of, storing, activating, marking, destroying};
 ghost use Rattle.vz_surfaces.specs.Reading.{stands, standing, existing_count, last_of, active_on, waiting_at, seen_frames, shown_in, held_of, has_mark, marked_to, was_reached};
 ghost use Rattle.vz_surfaces.specs.Keeping.{KeepsStored};
-ghost use Rattle.vz_surfaces.specs.Chains.{is_group, links_at, newest_at};
-ghost use Rattle.vz_surfaces.specs.Numbers.{list_at, has_room};
-ghost use Rattle.vz_surfaces.specs.Memory.{HasNumber, HasSame, HasSpare, IsSinkOf, held_in, waiting_on, acting_on, is_waiting_in, past_by};
+ghost use Rattle.vz_surfaces.specs.Memory.{HasNumber, IsSinkOf, held_in, waiting_on, acting_on, is_waiting_in, past_by};
 
 use crate::groups::{Groups, Link};
+use crate::growing::grow;
 use crate::held::{Gone, Held, Taken};
 use crate::marks::{mark_all, mark_before};
 use crate::named::{NamedFrame, places_of};
 use crate::owners::Owners;
+use crate::rising::Rising;
 use crate::seen::Seen;
 use crate::showing::shown_by;
 use crate::standing::Standing;
@@ -28,8 +26,7 @@ use crate::told::{Acceptance, Told, note};
 use crate::waits::Waits;
 use std::alloc::Global;
 use std::marker::Model;
-use vz_base::Memory;
-use vz_frame::{BoxedFrame, List, Room};
+use vz_frame::{BoxedFrame, Room, ShortList};
 use vz_geom::Size;
 use vz_ghost::GhostList;
 use vz_ids::{FrameSinkId, LocalSurfaceId, Sub, SurfaceId, SurfaceRange};
@@ -139,7 +136,37 @@ impl Store {
             → sub_of x ≡ s → result ≡ Some x.submitted.id }
         ensures only { is_some result ≡ is_waiting_in self.now s }
     {
-        self.waits.get(&s)
+        match self.waits.get(&s) {
+            None => None,
+            Some(surface) => Some(surface.id),
+        }
+    }
+
+    /// The surface on which a submission waits, with what waits and what is active there.
+    /// Condition: it waits.
+    pub fn rising(&self, s: Sub) -> Rising<'_>
+        requires { IsTrue (is_waiting_in self.now s) }
+        ensures surface { (x : Submission) → Contains self.now.subs x → IsTrue (is_waiting x)
+            → sub_of x ≡ s → result.id ≡ x.submitted.id }
+        ensures waiting { Some result.waiting.now
+            ≡ option_map held_of (waiting_at self.now result.id) }
+        ensures active { option_copied result.active
+            ≡ option_map held_of (active_on self.now result.id) }
+    {
+        let Some(link) = self.waits.get(&s) else {
+            unreachable!()
+        };
+        let Some(surface) = self.table.by_key(link.key) else {
+            unreachable!()
+        };
+        let Some(waiting) = surface.waiting.as_ref() else {
+            unreachable!()
+        };
+        Rising {
+            id: link.id,
+            waiting,
+            active: surface.active.as_ref(),
+        }
     }
 
     /// The active submission of a surface, with the surface, or None if the surface does not
@@ -195,7 +222,7 @@ impl Store {
         ensures list { out.new.list ≡ out.old.list ++ marked_to 16 self.now }
         ensures room { out.old.spare ≡ out.new.spare + length (marked_to 16 self.now) }
     {
-        for k in 0..16 {
+        for k in 0..self.owners.marking() {
             let to = self.owners.get(k + 1).marked_to;
             self.standing.put_to(k + 1, to, out);
         }
@@ -224,7 +251,7 @@ impl Store {
         sink: FrameSinkId,
         local: LocalSurfaceId,
         frame: BoxedFrame,
-        blocks: List<PixelBlock>,
+        blocks: ShortList<PixelBlock>,
     ) -> Result<Taken, BoxedFrame>
         requires number { HasNumber c }
         requires keeps { KeepsStored self.old }
@@ -279,10 +306,10 @@ impl Store {
             ordinal: owner.accepted + 1,
         };
         let frame = NamedFrame::new(acceptance.frame, places);
-        let (index, replaced) = self.table.hold(&id, sub, frame, acceptance.blocks);
+        let (index, replaced, key) = self.table.hold(&id, sub, frame, acceptance.blocks);
         let waited = name_of(&replaced);
         self.waits.remove(waited);
-        self.waits.put(sub, id);
+        self.waits.put(sub, Link { id, key });
         self.owners.set(c, owner.counting(last, local, size));
         Ok(Taken {
             sub,
@@ -303,11 +330,11 @@ impl Store {
     {
         let change = Told::Activated(s);
         self.told.show(&change);
-        let Some(id) = self.waits.take(&s) else {
+        let Some(link) = self.waits.take(&s) else {
             unreachable!()
         };
-        self.groups.note_active(&id);
-        let (number, past) = self.table.raise(&id);
+        self.groups.note_active(&link.id);
+        let (number, past) = self.table.raise(&link);
         mark_before(&mut self.owners, s.client, number);
         past
     }
@@ -352,41 +379,4 @@ impl Store {
             active: name_of(&surface.active),
         }
     }
-}
-
-/// Makes room for one more surface and one more waiting submission, and puts the surface into its
-/// group, unless it is the last one of its client. If it returns `Memory`, the groups do not
-/// change.
-fn grow(
-    alloc: Global,
-    table: &mut Table,
-    waits: &mut Waits,
-    groups: &mut Groups,
-    standing: &mut Standing,
-    id: SurfaceId,
-    c: u32,
-    last: bool,
-) -> Result<(), Memory>
-    ensures table { HasSame table.old table.new }
-    ensures waits { waits.new.surfaces.entries ≡ waits.old.surfaces.entries }
-    ensures surfaces { OnOk result (HasSpare table.new) }
-    ensures names { OnOk result (0 < spare_of waits.new.surfaces) }
-    ensures chain { (q : Id) → OnOk result (links_at groups.new q
-        ≡ (if not last && is_group id q
-        then links_at groups.old q ++ record { id = id; key = table.new.surfaces.vacant_key } ∷ []
-        else links_at groups.old q)) }
-    ensures err { (q : Id) → OnErr result (links_at groups.new q ≡ links_at groups.old q) }
-    ensures newest { (q : Id) → newest_at groups.new q ≡ newest_at groups.old q }
-    ensures lists { (q : ℕ) → list_at standing.new q ≡ list_at standing.old q }
-    ensures room { OnOk result (last ≡ false → IsTrue (has_room standing.new c)) }
-{
-    table.reserve()?;
-    waits.reserve()?;
-    if last {
-        return Ok(());
-    }
-    standing.reserve(alloc, c)?;
-    let key = table.next_key();
-    groups.add(alloc, Link { id, key })?;
-    Ok(())
 }

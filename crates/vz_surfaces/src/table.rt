@@ -3,9 +3,10 @@ ghost use Rattle.std.specs.Prelude.{◌≡◌, ◌<◌, ◌+◌, ◌&&◌, not, 
 ghost use Rattle.std.specs.Option.{option_copied, option_map};
 ghost use Rattle.vz_ids.specs.declared.SurfaceId.{SurfaceId as Id};
 ghost use Rattle.vz_surfaces.specs.declared.table.Surface.{Surface as Kept};
-ghost use Rattle.vz_surfaces.specs.Memory.{is_key, key_at, look, IsKeyed, HasSame, HasSpare, holding, raised, empty_surface};
+ghost use Rattle.vz_surfaces.specs.Memory.{is_key, key_at, under, look, IsKeyed, HasSame, HasSpare, holding, raised, empty_surface};
 ghost use Rattle.vz_surfaces.specs.Chains.{acting_under};
 
+use crate::groups::Link;
 use crate::held::Held;
 use crate::named::NamedFrame;
 use indexmap::IndexMap;
@@ -13,7 +14,7 @@ use slab::Slab;
 use std::alloc::Global;
 use std::mem;
 use vz_base::Memory;
-use vz_frame::List;
+use vz_frame::ShortList;
 use vz_ids::{Sub, SurfaceId};
 use vz_pixels::PixelBlock;
 
@@ -78,6 +79,13 @@ impl Table {
             None => None,
             Some(key) => self.surfaces.get(*key),
         }
+    }
+
+    /// The surface under a key, if there is one.
+    pub(crate) fn by_key(&self, key: usize) -> Option<&Surface>
+        ensures { option_copied result ≡ under self.now key }
+    {
+        self.surfaces.get(key)
     }
 
     /// The key that the next surface will get.
@@ -157,15 +165,15 @@ impl Table {
     }
 
     /// Makes a submission wait on a surface, in place of the one that waited. Returns its number
-    /// on the surface, and the one that waited, if one did. Conditions: the surface is in the
-    /// table, and the number does not overflow.
+    /// on the surface, the one that waited, if one did, and the surface's key. Conditions: the
+    /// surface is in the table, and the number does not overflow.
     pub(crate) fn hold(
         &mut self,
         id: &SurfaceId,
         sub: Sub,
         frame: NamedFrame,
-        blocks: List<PixelBlock>,
-    ) -> (u32, Option<Held>)
+        blocks: ShortList<PixelBlock>,
+    ) -> (u32, Option<Held>, usize)
         requires keyed { IsKeyed self.old }
         requires there { (s : Kept) × (look self.old id.now ≡ Some s) × (s.accepted < u32.MAX) }
         ensures surfaces { (q : Id) → look self.new q
@@ -174,6 +182,7 @@ impl Table {
         ensures index { (s : Kept) → look self.old id.now ≡ Some s → result.0 ≡ s.accepted + 1 }
         ensures replaced { (s : Kept) → look self.old id.now ≡ Some s
             → result.1 ≡ s.waiting }
+        ensures key { key_at self.new id.now ≡ Some result.2 }
         ensures keys { self.new.keys.entries ≡ self.old.keys.entries }
         ensures keyed { IsKeyed self.new }
     {
@@ -182,28 +191,28 @@ impl Table {
         };
         match self.surfaces.get_mut(*key) {
             None => unreachable!(),
-            Some(surface) => wait(surface, sub, frame, blocks),
+            Some(surface) => {
+                let (index, replaced) = wait(surface, sub, frame, blocks);
+                (index, replaced, *key)
+            }
         }
     }
 
     /// Makes the submission that waits on a surface its active one. Returns the number of the
     /// surface, and the submission that was active, if there was one. Condition: the surface is in
-    /// the table.
-    pub(crate) fn raise(&mut self, id: &SurfaceId) -> (u32, Option<Sub>)
+    /// the table, and the link has its key.
+    pub(crate) fn raise(&mut self, link: &Link) -> (u32, Option<Sub>)
         requires keyed { IsKeyed self.old }
-        requires there { (s : Kept) × (look self.old id.now ≡ Some s) }
-        ensures surfaces { (q : Id) → look self.new q
-            ≡ (if is_key id.now q then option_map raised (look self.old q) else look self.old q) }
-        ensures number { (s : Kept) → look self.old id.now ≡ Some s → result.0 ≡ s.number }
-        ensures past { (s : Kept) → look self.old id.now ≡ Some s
+        requires there { key_at self.old link.now.id ≡ Some link.now.key }
+        ensures surfaces { (q : Id) → look self.new q ≡ (if is_key link.now.id q
+            then option_map raised (look self.old q) else look self.old q) }
+        ensures number { (s : Kept) → look self.old link.now.id ≡ Some s → result.0 ≡ s.number }
+        ensures past { (s : Kept) → look self.old link.now.id ≡ Some s
             → result.1 ≡ option_map (λ h. h.sub) s.active }
         ensures keys { self.new.keys.entries ≡ self.old.keys.entries }
         ensures keyed { IsKeyed self.new }
     {
-        let Some(key) = self.keys.get(id) else {
-            unreachable!()
-        };
-        match self.surfaces.get_mut(*key) {
+        match self.surfaces.get_mut(link.key) {
             None => unreachable!(),
             Some(surface) => rise(surface),
         }
@@ -233,7 +242,7 @@ fn wait(
     surface: &mut Surface,
     sub: Sub,
     frame: NamedFrame,
-    blocks: List<PixelBlock>,
+    blocks: ShortList<PixelBlock>,
 ) -> (u32, Option<Held>)
     requires { surface.old.accepted < u32.MAX }
     ensures surface { surface.new ≡ holding sub frame blocks surface.old }

@@ -2,7 +2,7 @@
 ghost use Rattle.std.specs.Prelude.{◌≡◌, ◌++◌, ◌∷◌, []};
 ghost use Rattle.vz_surfaces.specs.declared.told.Told.TheVariants.{Accepted};
 
-use vz_frame::{BoxedFrame, List};
+use vz_frame::{BoxedFrame, ShortList};
 use vz_ghost::GhostList;
 use vz_ids::{FrameSinkId, LocalSurfaceId, Sub, SurfaceId};
 use vz_pixels::PixelBlock;
@@ -14,7 +14,7 @@ pub(crate) struct Acceptance {
     pub(crate) sink: FrameSinkId,
     pub(crate) local: LocalSurfaceId,
     pub(crate) frame: BoxedFrame,
-    pub(crate) blocks: List<PixelBlock>,
+    pub(crate) blocks: ShortList<PixelBlock>,
 }
 
 /// A change of a store, as the history keeps it.

@@ -1,5 +1,5 @@
 use Rattle.std.proofs.Common.{rules, ◌<◌, ◌≤◌, Some, None, length, take, sym, subst}
-use Rattle.vz_outside.proofs.Calls.{ran_one, ran_then_ran, ran_behaves}
+use Rattle.vz_outside.proofs.Calls.{ran_one, ran_then_ran, ran_behaves, reads_then_reads}
 use Rattle.vz_journal.specs.Answers.{IsFirstEntry}
 use Rattle.vz_check.specs.Judged.{IsJudged, IsFound}
 use Rattle.vz_outside.proofs.Behaving.{behaves_as, behaves_at, then_behaves}
@@ -94,3 +94,8 @@ returns-in-Some-2-clause-behaves g c =
     ran_behaves c.verdict_at-in-Some-2.result (g.F.Shelf.shelved c.args.shelf.now) (g.F.Shelf.shelved c.fault_of.new.shelf)
     (ran_then_ran (g.F.Shelf.shelved c.args.shelf.now) (g.F.Shelf.shelved c.loop-at.shelf) (g.F.Shelf.shelved c.fault_of.new.shelf) before.ran
     (ran_one c.in_ok-what-in-Some.field-0 (g.F.Shelf.shelved c.loop-at.shelf) (g.F.Shelf.shelved c.fault_of.new.shelf) c.in_ok-what-in-Some.ensures.behaves))
+
+pub returns-in-Some-2-clause-kept : goal.returns-in-Some-2-clause-kept
+returns-in-Some-2-clause-kept g c =
+    let before = was_read c.args.plan.now c.args.log.now c.args.slot (g.F.Shelf.shelved c.args.shelf.now) (g.F.Shelf.shelved c.loop-at.shelf) c.loop-at.machine c.loop-at.at c.loop-at.count c.loop-at.invariant in
+    reads_then_reads c.args.slot (g.F.Shelf.shelved c.args.shelf.now) (g.F.Shelf.shelved c.loop-at.shelf) (g.F.Shelf.shelved c.fault_of.new.shelf) before.ran.call before.kept c.in_ok-what-in-Some.ensures.kept

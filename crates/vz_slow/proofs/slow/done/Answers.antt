@@ -1,10 +1,9 @@
-use Rattle.std.proofs.Common.{is_some, sym, ap, ◌∙◌, arith}
+use Rattle.std.proofs.Common.{is_some, refl, sym, ap, ◌∙◌, arith}
 use Rattle.vz_frame.specs.Roomy.{Roomy}
 use Rattle.vz_rules.specs.World.{World}
 use Rattle.vz_rules.specs.Returns.{feed}
 use Rattle.vz_rules.specs.declared.entry.Effects.{Effects}
 use Rattle.vz_rules.specs.declared.entry.Reply.TheVariants as reply
-use Rattle.vz_rules.specs.Step.{Outcome}
 use Rattle.vz_rules.specs.declared.entry.Returned.{Returned}
 use Rattle.vz_rules.specs.declared.entry.Fed.{Fed}
 use Rattle.vz_state.specs.Outs.{unfed}
@@ -20,8 +19,8 @@ feed-requires c =
     let spare = ap (λ (r : Roomy Fed). r.spare) c.replace-told.ensures.value in
     omega arith
 
-pub fill-requires : goal.fill-requires
-fill-requires c =
+pub fill-effects-requires : goal.fill-effects-requires
+fill-effects-requires c =
     let was = ap (λ (u : World). u.in_flight) (sym c.world.view_is) ∙ (sym c.take.ensures.value ∙ c.in-Some.is) in
     (c.requires.room.room (ap is_some was)).effects
 
@@ -33,12 +32,12 @@ returns-in-None-clause-step c = λ p.
 pub returns-in-Some-clause-step : goal.returns-in-Some-clause-step
 returns-in-Some-clause-step c = λ p.
     let was = ap (λ (u : World). u.in_flight) (sym c.world.view_is) ∙ (sym c.take.ensures.value ∙ c.in-Some.is) in
-    (ap (λ (e : Effects). record { reply = reply.Shown; effects = e; world = c.feed.new.self }) c.fill.ensures)
-    ∙ done_shown p c.args.world.now _ c.give_back.new.self c.feed.new.self c.in-Some.presented c.as_slice.result.now c.new-in-Some-2.result c.new-in-Some-3.result c.into_list.result c.into_list-in-Some.result
+    (ap (λ (e : Effects). record { reply = reply.Shown; effects = e; world = c.feed.new.self }) c.fill-effects.ensures.effects)
+    ∙ done_shown p c.args.world.now _ c.give_back.new.self c.feed.new.self c.in-Some.presented c.as_slice.result.now c.new-activated.result.list c.new-destroyed.result.list c.give_back.new.told.list c.feed.new.told.list
     c.requires.kept was c.as_slice.ensures
-    (landed_is c.args.world.now _ c.take.new.self c.world.view_is c.take.ensures.after) c.give_back.ensures.world c.feed.ensures.world c.new-in-Some-2.ensures c.new-in-Some-3.ensures
-    (put_into_none c.replace-queued.result c.give_back.new.told _ c.give_back.ensures.told (ap (λ (r : Roomy Returned). r.list) c.replace-queued.ensures.value ∙ c.requires.room.no_returned) c.into_list.result c.into_list.ensures)
-    (put_into_none c.replace-told.result c.feed.new.told _ c.feed.ensures.told (ap (λ (r : Roomy Fed). r.list) c.replace-told.ensures.value ∙ c.requires.room.no_fed) c.into_list-in-Some.result c.into_list-in-Some.ensures)
+    (landed_is c.args.world.now _ c.take.new.self c.world.view_is c.take.ensures.after) c.give_back.ensures.world c.feed.ensures.world c.new-activated.ensures c.new-destroyed.ensures
+    (put_into_none c.replace-queued.result c.give_back.new.told _ c.give_back.ensures.told (ap (λ (r : Roomy Returned). r.list) c.replace-queued.ensures.value ∙ c.requires.room.no_returned) _ refl)
+    (put_into_none c.replace-told.result c.feed.new.told _ c.feed.ensures.told (ap (λ (r : Roomy Fed). r.list) c.replace-told.ensures.value ∙ c.requires.room.no_fed) _ refl)
 
 pub returns-in-Some-clause-none : goal.returns-in-Some-clause-none
 returns-in-Some-clause-none c = fed_flight _ c.feed.new.self c.as_slice.result.now (c.feed.ensures.world ∙ ap (feed c.as_slice.result.now) c.give_back.ensures.world) ∙ c.take.ensures.after

@@ -36,8 +36,8 @@ returns-clause-step c p w x old is =
     step_of p w (event.Client c.args.c) (says (reply.Reclaimed x.queue) (taking reclaim x w)) c.nothing_follows.result
     (reclaim_sent p w c.args.c x is) refl
     (keeps_reclaimed w x h.keeps)
-    (c.nothing_follows.ensures.reply ∙ ap reply.Reclaimed (appended _ _ _ x.queue c.into_list.ensures told
-    (c.reserve.ensures.list ∙ c.new-queue.ensures)))
+    (c.nothing_follows.ensures.reply ∙ ap reply.Reclaimed (appended _ _ _ x.queue c.take-queue.ensures.values told
+    (c.reserve.ensures.list ∙ c.clear.ensures.list)))
     c.nothing_follows.ensures.effects
 
 pub returns-clause-serves : goal.returns-clause-serves

@@ -10,6 +10,6 @@ loop-listing-preserved c =
     let f = λ (l : Listing). block_in c.args.self.now.blocks.entries l.id in
     let k = c.loop-listing.listing-index in
     c.in_ok-push_shared.ensures
-    ∙ (ap (λ l. l ++ option_to_list (option_copied c.get.result)) c.loop-listing.invariant
-    ∙ (ap (λ o. filter_map f (take k c.args.listings.now) ++ option_to_list o) c.get.ensures
+    ∙ (ap (λ l. l ++ option_to_list (option_copied c.get-in-loop-listing.result)) c.loop-listing.invariant
+    ∙ (ap (λ o. filter_map f (take k c.args.listings.now) ++ option_to_list o) c.get-in-loop-listing.ensures
     ∙ sym (given_more f c.args.listings.now k _ c.loop-listing-test.true)))

@@ -2,13 +2,13 @@ use Rattle.std.proofs.Common.{◌+◌, ◌≤◌, length, ap, sym, ◌∙◌, su
 use Rattle.vz_frame.specs.declared.frame.CompositorFrame.{CompositorFrame}
 use Rattle.vz_surface_manager.specs.{Live.Live, Changes.IsRising}
 use Rattle.vz_surface_manager.proofs.{Live_kept.got, Set_counts.one_set, Set_counts.none_more}
-use Rattle.vz_surface_manager.proofs.Risen.{id_is, none_missing, acts_is, releases, is_lender, none_waits, ranges_are, wants_less, fits, keeps, waits_there, past_is, live_risen}
+use Rattle.vz_surface_manager.proofs.Risen.{id_is, acts_is, releases, is_lender, ranges_are, wants_less, fits, keeps, waits_there, past_is, live_risen}
 use Rattle.vz_surface_manager.proofs.live.LiveSurfaces.rise.Goals as goal
 
-pub unreachable-requires : goal.unreachable-requires
-unreachable-requires c =
+pub rising-requires : goal.rising-requires
+rising-requires c =
     let x = c.requires.rises in
-    none_missing x.0 x.1 x.2 c.args.sub _ (subst (IsRising x.0 x.1 x.2 c.args.sub) (sym c.self.view_is) x.3) c.in_default.ensures.found
+    waits_there x.0 x.1 x.2 c.args.sub _ (subst (IsRising x.0 x.1 x.2 c.args.sub) (sym c.self.view_is) x.3)
 
 pub past-requires-clause-known : goal.past-requires-clause-known
 past-requires-clause-known c =
@@ -19,38 +19,32 @@ pub past-requires-clause-rises : goal.past-requires-clause-rises
 past-requires-clause-rises c =
     let x = c.requires.rises in
     let h = subst (IsRising x.0 x.1 x.2 c.args.sub) (sym c.self.view_is) x.3 in
-    let id = id_is x.0 x.1 x.2 c.args.sub _ h c.in-Some.id c.in-Some.ensures.found in (
+    let id = id_is x.0 x.1 x.2 c.args.sub _ h c.rising.result.id c.rising.ensures.surface in (
       x.0,
       x.2,
-      releases x.0 x.1 x.2 c.args.sub _ h _ c.listings_of.result.now (acts_is x.0 x.1 x.2 c.args.sub _ h _ c.in-Some.id id c.active-past.ensures) c.listings_of.ensures,
+      releases x.0 x.1 x.2 c.args.sub _ h _ c.listings_of.result.now (acts_is x.0 x.1 x.2 c.args.sub _ h _ c.rising.result.id id c.rising.ensures.active) c.listings_of.ensures,
     )
-
-pub unreachable-requires-in_default-waiting : goal.unreachable-requires-in_default-waiting
-unreachable-requires-in_default-waiting c =
-    let x = c.requires.rises in
-    let h = subst (IsRising x.0 x.1 x.2 c.args.sub) (sym c.self.view_is) x.3 in
-    none_waits x.0 x.1 x.2 c.args.sub _ h c.in-Some.id (id_is x.0 x.1 x.2 c.args.sub _ h c.in-Some.id c.in-Some.ensures.found) c.in_default-waiting.ensures
 
 pub unwrap-requires : goal.unwrap-requires
 unwrap-requires c =
     let x = c.requires.rises in
     let h = subst (IsRising x.0 x.1 x.2 c.args.sub) (sym c.self.view_is) x.3 in
-    let id = id_is x.0 x.1 x.2 c.args.sub _ h c.in-Some.id c.in-Some.ensures.found in
+    let id = id_is x.0 x.1 x.2 c.args.sub _ h c.rising.result.id c.rising.ensures.surface in
     c.set.ensures.succeeds
     (fits x.0 x.1 x.2 c.args.sub _ h c.as_slice-ranges.result.now
     (c.as_slice-ranges.ensures
     ∙ (ap (λ (f : CompositorFrame). f.metadata.references) c.frame.ensures
-    ∙ ranges_are x.0 x.1 x.2 c.args.sub _ h c.in-Some-waiting.risen.now c.in-Some.id id c.in-Some-waiting.ensures)))
+    ∙ ranges_are x.0 x.1 x.2 c.args.sub _ h c.rising.result.waiting.now c.rising.result.id id c.rising.ensures.waiting)))
 
 pub overflow_sub-self : goal.overflow_sub-self
 overflow_sub-self c =
     let x = c.requires.rises in
     let h = subst (IsRising x.0 x.1 x.2 c.args.sub) (sym c.self.view_is) x.3 in
-    let id = id_is x.0 x.1 x.2 c.args.sub _ h c.in-Some.id c.in-Some.ensures.found in
+    let id = id_is x.0 x.1 x.2 c.args.sub _ h c.rising.result.id c.rising.ensures.surface in
     wants_less x.0 x.1 x.2 c.args.sub _ h c.as_slice-ranges.result.now
     (c.as_slice-ranges.ensures
     ∙ (ap (λ (f : CompositorFrame). f.metadata.references) c.frame.ensures
-    ∙ ranges_are x.0 x.1 x.2 c.args.sub _ h c.in-Some-waiting.risen.now c.in-Some.id id c.in-Some-waiting.ensures))
+    ∙ ranges_are x.0 x.1 x.2 c.args.sub _ h c.rising.result.waiting.now c.rising.result.id id c.rising.ensures.waiting))
 
 pub activate-requires-2-clause-keeps : goal.activate-requires-2-clause-keeps
 activate-requires-2-clause-keeps c =
@@ -65,12 +59,12 @@ activate-requires-2-clause-waits c =
 pub returns-clause-live : goal.returns-clause-live
 returns-clause-live c w but s x =
     let h = subst (IsRising w but s c.args.sub) (sym c.self.view_is) x in
-    let id = id_is w but s c.args.sub _ h c.in-Some.id c.in-Some.ensures.found in
-    let acts = acts_is w but s c.args.sub _ h _ c.in-Some.id id c.active-past.ensures in
+    let id = id_is w but s c.args.sub _ h c.rising.result.id c.rising.ensures.surface in
+    let acts = acts_is w but s c.args.sub _ h _ c.rising.result.id id c.rising.ensures.active in
     let ranges = c.as_slice-ranges.ensures
     ∙ (ap (λ (f : CompositorFrame). f.metadata.references) c.frame.ensures
-    ∙ ranges_are w but s c.args.sub _ h c.in-Some-waiting.risen.now c.in-Some.id id c.in-Some-waiting.ensures) in
-    live_risen w but s c.args.sub _ h c.activate-2.new.self c.past.new.self c.activate.new.self c.set.new.self c.activated.new.self c.as_slice-ranges.result.now c.in-Some.id
+    ∙ ranges_are w but s c.args.sub _ h c.rising.result.waiting.now c.rising.result.id id c.rising.ensures.waiting) in
+    live_risen w but s c.args.sub _ h c.activate-2.new.self c.past.new.self c.activate.new.self c.set.new.self c.activated.new.self c.as_slice-ranges.result.now c.rising.result.id
     id ranges c.activate-2.ensures.activated
     (c.past.ensures.lent w s (releases w but s c.args.sub _ h _ c.listings_of.result.now acts c.listings_of.ensures))
     (c.activate.ensures.owed w s h.always h.live.owed h.known h.waits (past_is w but s c.args.sub _ h _ c.ended_in.result acts c.ended_in.ensures))
@@ -80,7 +74,7 @@ returns-clause-live c w but s x =
 pub returns-clause-surface : goal.returns-clause-surface
 returns-clause-surface c w but s x =
     let h = subst (IsRising w but s c.args.sub) (sym c.self.view_is) x in
-    id_is w but s c.args.sub _ h c.in-Some.id c.in-Some.ensures.found
+    id_is w but s c.args.sub _ h c.rising.result.id c.rising.ensures.surface
 
 pub returns-clause-sets : goal.returns-clause-sets
 returns-clause-sets c =

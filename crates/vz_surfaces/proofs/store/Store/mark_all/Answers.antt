@@ -11,6 +11,6 @@ returns c = stored_more c.self.inside.told c.show.new.self _ c.args.self.now c.s
 pub invariant_of-self : goal.invariant_of-self
 invariant_of-self c =
     let inside = c.self.inside in (
-      marked_stands inside.groups inside.table inside.waits inside.owners c.mark_all.new.owners inside.told c.show.new.self c.args.self.now c.args.c c.requires c.self.invariant.0 c.self.view_is c.show.ensures c.mark_all.ensures,
+      marked_stands inside.groups inside.table inside.waits inside.owners c.mark_all.new.owners inside.told c.show.new.self c.args.self.now c.args.c c.requires c.self.invariant.0 c.self.view_is c.show.ensures c.mark_all.ensures.owners c.mark_all.ensures.marking,
       subst (KeepsLists inside.standing) (sym (returns c)) (marked_lists inside.standing c.args.self.now c.args.c (subst (KeepsLists inside.standing) c.self.view_is c.self.invariant.1)),
     )

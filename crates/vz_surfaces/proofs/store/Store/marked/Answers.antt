@@ -1,9 +1,10 @@
-use Rattle.std.proofs.Common.{◌≡◌, ◌≤◌, ◌+◌, ◌++◌, ℕ, length, sym, ap, ◌∙◌, subst, arith}
+use Rattle.std.proofs.Common.{◌≡◌, ◌≤◌, ◌+◌, ◌++◌, List, length, sym, ap, ◌∙◌, subst, arith}
+use Rattle.vz_ids.specs.declared.SurfaceId.{SurfaceId}
 use Rattle.vz_surfaces.specs.Stored.{Stored}
 use Rattle.vz_surfaces.specs.Told.{stored}
 use Rattle.vz_surfaces.specs.Reading.{existing_count, marked_to}
 use Rattle.vz_surfaces.specs.declared.owners.Owner.{Owner}
-use Rattle.vz_surfaces.proofs.Listing.{numbers_begin, put_fits, put_more, put_left, put_none}
+use Rattle.vz_surfaces.proofs.Listing.{numbers_begin, put_fits, put_more, put_left, put_none, marked_whole}
 use Rattle.vz_surfaces.proofs.store.Store.marked.Goals as goal
 
 pub put_to-requires-clause-rise : goal.put_to-requires-clause-rise
@@ -30,15 +31,18 @@ loop-k-preserved c =
           c.loop-k.invariant.1 c.put_to.ensures.spare,
     )
 
+-- no client after the last one that is asked has marked surfaces
+all_in : (c : goal.After-loop-k) → marked_to 16 c.args.self.now ≡ marked_to c.loop-k.k (stored c.self.inside.told)
+all_in c =
+    let inside = c.self.inside in
+    ap (marked_to 16) (sym c.self.view_is)
+    ∙ marked_whole inside.standing inside.owners (stored inside.told) c.loop-k.k c.self.invariant.1 c.self.invariant.0.marks c.self.invariant.0.marking (omega (arith, c.loop-k.auto.k-end, c.loop-k-test.false, c.marking-k-end.ensures))
+
 pub returns-clause-list : goal.returns-clause-list
-returns-clause-list c =
-    let last : c.loop-k.k ≡ 16 = omega (arith, c.loop-k.auto.k-end, c.loop-k-test.false) in
-    c.loop-k.invariant.0 ∙ (ap (λ (n : ℕ). c.args.out.now.list ++ marked_to n (stored c.self.inside.told)) last ∙ ap (λ (st : Stored). c.args.out.now.list ++ marked_to 16 st) c.self.view_is)
+returns-clause-list c = c.loop-k.invariant.0 ∙ ap (λ (l : List SurfaceId). c.args.out.now.list ++ l) (sym (all_in c))
 
 pub returns-clause-room : goal.returns-clause-room
-returns-clause-room c =
-    let last : c.loop-k.k ≡ 16 = omega (arith, c.loop-k.auto.k-end, c.loop-k-test.false) in
-    c.loop-k.invariant.1 ∙ (ap (λ (n : ℕ). c.loop-k.out.spare + length (marked_to n (stored c.self.inside.told))) last ∙ ap (λ (st : Stored). c.loop-k.out.spare + length (marked_to 16 st)) c.self.view_is)
+returns-clause-room c = c.loop-k.invariant.1 ∙ ap (λ (l : List SurfaceId). c.loop-k.out.spare + length l) (sym (all_in c))
 
 pub loop-k-init : goal.loop-k-init
 loop-k-init c = put_none c.args.out.now.list c.args.out.now.spare (stored c.self.inside.told)
