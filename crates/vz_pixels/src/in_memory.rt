@@ -8,6 +8,9 @@ use std::slice;
 
 /// The bytes of pixels as they lie in memory: four bytes a pixel, red, green, blue and alpha.
 /// Nothing is copied.
+///
+/// Its proof is written by hand, over the fields as `Pixel` declares them. `Pixel` has `repr(C)`,
+/// which promises that they lie in that order in the built program too.
 pub fn bytes_of(pixels: &[Pixel]) -> &[u8]
     ensures { result.now ≡ flat_map colour_bytes pixels.now }
 {
