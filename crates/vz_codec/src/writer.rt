@@ -2,6 +2,7 @@
 ghost use Rattle.std.specs.Prelude.{◌≡◌, [], ◌++◌, OnOk};
 ghost use Rattle.vz_codec.specs.Spelling.{u8_bytes, u16_bytes, u32_bytes, u128_bytes, i32_bytes};
 
+use byteorder::{ByteOrder, LittleEndian};
 use std::alloc::{AllocError, Global};
 use std::marker::Model;
 
@@ -47,46 +48,58 @@ impl Writer {
     pub fn u8(&mut self, n: u8) -> Result<(), AllocError>
         ensures { OnOk result (self.new ≡ self.old ++ u8_bytes n) }
     {
-        self.all(&n.to_le_bytes())
+        self.all(&[n])
     }
 
     /// Writes a count as one byte: its low 8 bits.
     pub fn u8_count(&mut self, n: usize) -> Result<(), AllocError>
         ensures { OnOk result (self.new ≡ self.old ++ u8_bytes n) }
     {
-        self.all(&n.to_le_bytes()[..1])
+        let mut bytes = [0; 8];
+        LittleEndian::write_u64(&mut bytes, n as u64);
+        self.all(&bytes[..1])
     }
 
     /// Writes a count as two bytes: its low 16 bits.
     pub fn u16_count(&mut self, n: usize) -> Result<(), AllocError>
         ensures { OnOk result (self.new ≡ self.old ++ u16_bytes n) }
     {
-        self.all(&n.to_le_bytes()[..2])
+        let mut bytes = [0; 8];
+        LittleEndian::write_u64(&mut bytes, n as u64);
+        self.all(&bytes[..2])
     }
 
     /// Writes a count as four bytes: its low 32 bits.
     pub fn u32_count(&mut self, n: usize) -> Result<(), AllocError>
         ensures { OnOk result (self.new ≡ self.old ++ u32_bytes n) }
     {
-        self.all(&n.to_le_bytes()[..4])
+        let mut bytes = [0; 8];
+        LittleEndian::write_u64(&mut bytes, n as u64);
+        self.all(&bytes[..4])
     }
 
     pub fn u16(&mut self, n: u16) -> Result<(), AllocError>
         ensures { OnOk result (self.new ≡ self.old ++ u16_bytes n) }
     {
-        self.all(&n.to_le_bytes())
+        let mut bytes = [0; 2];
+        LittleEndian::write_u16(&mut bytes, n);
+        self.all(&bytes)
     }
 
     pub fn u32(&mut self, n: u32) -> Result<(), AllocError>
         ensures { OnOk result (self.new ≡ self.old ++ u32_bytes n) }
     {
-        self.all(&n.to_le_bytes())
+        let mut bytes = [0; 4];
+        LittleEndian::write_u32(&mut bytes, n);
+        self.all(&bytes)
     }
 
     pub fn u128(&mut self, n: u128) -> Result<(), AllocError>
         ensures { OnOk result (self.new ≡ self.old ++ u128_bytes n) }
     {
-        self.all(&n.to_le_bytes())
+        let mut bytes = [0; 16];
+        LittleEndian::write_u128(&mut bytes, n);
+        self.all(&bytes)
     }
 
     pub fn i32(&mut self, z: i32) -> Result<(), AllocError>
