@@ -12,3 +12,4 @@ mod Redrawn
 mod Patches
 mod Grouped
 mod Bands_drawn
+mod Bytes_of_groups

@@ -4,3 +4,4 @@ pub mod Strips
 pub mod Choice
 pub mod Ground
 pub mod Redraw
+pub mod Scratch

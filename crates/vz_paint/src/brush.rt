@@ -1,9 +1,11 @@
 //! Drawing the rows of an area.
-ghost use Rattle.std.specs.Prelude.{◌≡◌, ◌+◌, ◌*◌, ◌≤◌, ◌<◌, ◌+ℤ◌, ◌≤ℤ◌, ◌<ℤ◌, pos, nat_abs, length, map, true, vec_len, vec_capacity, IfOk};
+ghost use Rattle.std.specs.Prelude.{◌≡◌, ◌+◌, ◌*◌, ◌≤◌, ◌<◌, ◌+ℤ◌, ◌≤ℤ◌, ◌<ℤ◌, pos, nat_abs, length, map, max, true, vec_len, vec_capacity, IfOk};
 ghost use Rattle.std.specs.List.{All};
 ghost use Rattle.vz_base.specs.declared.limits.TheConstants.{GREATEST_DISPLAY_SIDE};
 ghost use Rattle.vz_buffers.specs.Bands.{FitsIn, rows_put, rows_from};
+ghost use Rattle.vz_flat.specs.declared.op.TheConstants.{MOST_OPEN};
 ghost use Rattle.vz_flat.specs.Ops.{is_whole, deepest};
+ghost use Rattle.vz_paint.specs.Scratch.{group_bytes, scratch_bytes, most_bytes};
 ghost use Rattle.vz_paint.specs.Stack.{HavePixels};
 ghost use Rattle.vz_paint.specs.Strips.{IsArea, IsBrush, strip_of};
 
@@ -39,6 +41,7 @@ pub(crate) struct Brush<'a, 'b> {
 impl<'a, 'b> Brush<'a, 'b> {
     /// Makes a brush with its memory. The only error is `Memory`. Conditions: the area has a
     /// point and is on a display, and the operations are valid.
+    #[tactic(auto, using(crate::proofs::Bytes_of_groups::few_bytes))]
     pub(crate) fn new(
         alloc: Global,
         ops: &'b [&'a Op],
@@ -51,6 +54,8 @@ impl<'a, 'b> Brush<'a, 'b> {
         ensures sheet { IfOk result (λ b. b.sheet ≡ sheet) }
         ensures able { IfOk result (λ b. IsBrush (map (λ r. r.now) b.ops.now) b.sheet.area
             b.rows b.groups.items) }
+        ensures bytes { IfOk result (λ b. group_bytes b.groups.items
+            ≤ most_bytes sheet.area sheet.deepest) }
     {
         let wide = width(&sheet.area);
         let rows = least(height(&sheet.area), rows_at_once(wide, sheet.deepest));
@@ -151,11 +156,30 @@ fn row_start(area: &Rect, below: u32) -> Point
 /// How many pixels are drawn at once, so that they stay in the fastest memory.
 const AT_ONCE: usize = 16384;
 
+/// The most bytes of the groups of all brushes together. A brush alone takes an eighth of them at
+/// most.
+pub(crate) const MOST_SCRATCH: usize = 67_108_864;
+
+/// The most bytes of the groups of one brush: those of as many pixels as are drawn at once, or of
+/// one row more than there are groups, if that is more.
+pub(crate) fn bytes_of_brush(area: &Rect, groups: u32) -> usize
+    requires { groups ≤ MOST_OPEN }
+    ensures some { 0 < result }
+    ensures value { result ≡ most_bytes area.now groups }
+{
+    let rows = area.w().unsigned_abs() as usize * (groups as usize + 1);
+    if rows < AT_ONCE {
+        return 4 * AT_ONCE;
+    }
+    4 * rows
+}
+
 /// How many rows of this width are drawn at once, with those of so many groups: at least one.
 fn rows_at_once(wide: usize, groups: u32) -> usize
     requires { wide ≤ GREATEST_DISPLAY_SIDE }
     ensures some { 0 < result }
     ensures most { result ≤ AT_ONCE }
+    ensures few { result * (wide * (groups + 1)) ≤ max AT_ONCE (wide * (groups + 1)) }
 {
     let pixels = wide * (groups as usize + 1);
     if pixels == 0 || AT_ONCE < pixels {
@@ -209,6 +233,7 @@ pub(crate) fn places(wanted: usize, few: usize) -> usize
 fn open_groups(alloc: Global, count: u32, pixels: usize) -> Result<Vec<OpenGroup>, Memory>
     ensures count { IfOk result (λ v. length v.items ≡ count) }
     ensures pixels { IfOk result (λ v. HavePixels pixels v.items) }
+    ensures bytes { IfOk result (λ v. group_bytes v.items ≡ 4 * (count * pixels)) }
 {
     let mut groups = Vec::with_capacity(alloc, places(count as usize, FEW_GROUPS))?;
     for _ in 0..count {
@@ -217,7 +242,8 @@ fn open_groups(alloc: Global, count: u32, pixels: usize) -> Result<Vec<OpenGroup
     Ok(groups)
 }
 
-/// Makes `count` brushes for the same operations. The conditions are those of one.
+/// Makes `count` brushes for the same operations. The conditions are those of one, and that all
+/// together take at most `MOST_SCRATCH` bytes for their groups.
 pub(crate) fn brushes_for<'a, 'b>(
     alloc: Global,
     ops: &'b [&'a Op],
@@ -227,7 +253,9 @@ pub(crate) fn brushes_for<'a, 'b>(
     requires area { IsArea sheet.area }
     requires whole { is_whole (map (λ r. r.now) ops.now) ≡ true }
     requires deepest { deepest 0 (map (λ r. r.now) ops.now) ≤ sheet.deepest }
+    requires bytes { count * most_bytes sheet.area sheet.deepest ≤ MOST_SCRATCH }
     ensures count { IfOk result (λ v. length v.items ≡ count) }
+    ensures bytes { IfOk result (λ v. scratch_bytes v.items ≤ MOST_SCRATCH) }
     ensures each { IfOk result (λ v. All (λ b. (b.ops.now ≡ ops.now) × (b.sheet ≡ sheet)
         × IsBrush (map (λ r. r.now) b.ops.now) b.sheet.area b.rows b.groups.items) v.items) }
 {

@@ -1,12 +1,14 @@
 //! Painting an area of a buffer.
-ghost use Rattle.std.specs.Prelude.{◌≡◌, ◌+◌, ◌≤◌, ◌<◌, OnOk, OnErr};
+ghost use Rattle.std.specs.Prelude.{◌≡◌, ◌+◌, ◌*◌, ◌≤◌, ◌<◌, OnOk, OnErr};
 ghost use Rattle.vz_geom.specs.Rectangle.{Covers, sized, area_of};
 ghost use Rattle.vz_buffers.specs.Canvas.{IsCanvas};
 ghost use Rattle.vz_machine.specs.Pictured.{IsInside};
+ghost use Rattle.vz_flat.specs.Ops.{deepest};
+ghost use Rattle.vz_paint.specs.Scratch.{most_bytes};
 ghost use Rattle.vz_paint.specs.Strips.{IsPainted};
 
 use crate::alone::paint_alone;
-use crate::brush::{Sheet, brushes_for, places};
+use crate::brush::{MOST_SCRATCH, Sheet, brushes_for, bytes_of_brush, places};
 use crate::choice::choose;
 use crate::ground::{behind, ground_of};
 use std::alloc::Global;
@@ -24,23 +26,26 @@ const SHARE: u64 = 131_072;
 /// The least number of operations for which places are reserved, if there is one at all.
 pub(crate) const FEW_OPS: usize = 16;
 
-/// How many threads paint an area of this many pixels.
-fn threads_for<R: Threads>(rt: &R, pixels: u64) -> usize
+/// How many threads paint an area of this many pixels, if each takes this many bytes for groups:
+/// all together take at most `MOST_SCRATCH`.
+fn threads_for<R: Threads>(rt: &R, pixels: u64, bytes: usize) -> usize
+    requires { 0 < bytes }
     ensures some { 1 ≤ result }
     ensures worth { (1 < result) → 1 ≤ pixels }
+    ensures scratch { (1 < result) → result * bytes ≤ MOST_SCRATCH }
 {
-    let worth = pixels / SHARE;
-    if worth < 2 {
+    let most = (pixels / SHARE).min((MOST_SCRATCH / bytes) as u64);
+    if most < 2 {
         return 1;
     }
     match available_parallelism(rt) {
-        Ok(processors) => processors.get().min(worth as usize),
+        Ok(processors) => processors.get().min(most as usize),
         Err(_) => 1,
     }
 }
 
 /// Paints an area that is not empty on so many threads. Everything is allocated before the first
-/// row.
+/// row, and the groups of all threads take at most `MOST_SCRATCH` bytes together.
 fn paint_area<L: Ledger, R: Threads + Sync>(
     rt: &R,
     alloc: Global,
@@ -53,6 +58,7 @@ fn paint_area<L: Ledger, R: Threads + Sync>(
     requires canvas { IsCanvas buffer.old }
     requires inside { IsInside (sized buffer.old.size) area.now }
     requires threads { 1 ≤ threads }
+    requires scratch { threads * most_bytes area.now (deepest 0 ops.now) ≤ MOST_SCRATCH }
     ensures size { buffer.new.size ≡ buffer.old.size }
     ensures painted { OnOk result (IsPainted ops.now area.now buffer.old buffer.new) }
     ensures counted { OnOk result (steps.new ≡ steps.old + area_of area.now) }
@@ -89,7 +95,8 @@ fn paint_area<L: Ledger, R: Threads + Sync>(
 ///
 /// Everything is allocated before the first row: a place for each operation and, for each thread,
 /// pixels for each group that may be open at once (16,384 in all, or a row each if that is more).
-/// If that fails it returns `Memory`, and the buffer does not change.
+/// The pixels of all threads take at most 67,108,864 bytes: with more processors than that allows,
+/// fewer threads paint. If that fails it returns `Memory`, and the buffer does not change.
 pub fn paint<L: Ledger, R: Threads + Sync>(
     rt: &R,
     alloc: Global,
@@ -105,7 +112,7 @@ pub fn paint<L: Ledger, R: Threads + Sync>(
     ensures err { OnErr result (buffer.new ≡ buffer.old) }
     ensures err_steps { OnErr result (steps.new ≡ steps.old) }
 {
-    let threads = threads_for(rt, area.area());
+    let threads = threads_for(rt, area.area(), bytes_of_brush(&area, ops.deepest()));
     if threads == 1 {
         paint_alone(alloc, ops, buffer, area, steps)?;
         return Ok(());

@@ -1,7 +1,9 @@
-use Rattle.std.proofs.Common.{◌∙◌, length, map, ap, arith}
+use Rattle.std.proofs.Common.{◌∙◌, ◌≤◌, ◌*◌, length, map, ap, subst, sym, arith}
 use Rattle.vz_paint.specs.{Choice.seen, Strips.IsBrush, Strips.strip_of, declared.brush.Brush.Brush, declared.brush.Sheet.Sheet}
 use Rattle.vz_paint.proofs.{Banded.area_painted, Banded.whole_is, Banded.room_is, Brushing.may_put, Brushing.same_strips, Brushing.all_able}
 use Rattle.vz_paint.proofs.Grounded.{stands}
+use Rattle.vz_paint.specs.declared.brush.TheConstants.{MOST_SCRATCH}
+use Rattle.vz_paint.specs.Scratch.{most_bytes}
 use Rattle.vz_paint.proofs.painting.paint_area.Goals as goal
 
 pub brushes_for-requires-clause-whole : goal.brushes_for-requires-clause-whole
@@ -20,6 +22,9 @@ brushes_for-requires-clause-deepest g c =
     (ap (map (λ r. r.now)) c.as_slice-shown.ensures.value ∙ (c.choose.ensures.chosen ∙ ap (seen c.args.area.now 0) c.as_slice-list.ensures.value))
     (stands c.args.area.now chosen _ c.ground_of-ground.result.color c.ground_of-ground.result.drawn e.same e.whole e.deep c.behind-rest.ensures)
     c.deepest.ensures.value
+
+pub brushes_for-requires-clause-bytes : goal.brushes_for-requires-clause-bytes
+brushes_for-requires-clause-bytes g c = subst (λ d. c.args.threads * most_bytes c.args.area.now d ≤ MOST_SCRATCH) (sym c.deepest.ensures.value) c.requires.scratch
 
 pub put_rows-requires-after_bounds : goal.put_rows-requires-after_bounds
 put_rows-requires-after_bounds g c κs within =
