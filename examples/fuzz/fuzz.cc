@@ -2,8 +2,6 @@
 //
 // Hand your own compositor to compare_with as a function of this type. The one here is viz_check, which plays the log
 // on the plain machine and paints each frame with the plain painter; it must say yes.
-#include <fuzzer/FuzzedDataProvider.h>
-
 #include <cstdio>
 #include <cstdlib>
 #include <vector>
@@ -13,6 +11,22 @@
 namespace {
 
 using Bytes = std::vector<uint8_t>;
+
+// Takes choices from the fuzzer's bytes, one after the other; once these are used up each choice is the least.
+class Choices {
+  public:
+    Choices(const uint8_t* data, size_t size) : at_(data), end_(data + size) {}
+
+    uint32_t pick(uint32_t least, uint32_t most) {
+        uint32_t span = most - least, number = 0;
+        for (uint32_t left = span; left > 0 && at_ != end_; left >>= 8) number = number << 8 | *at_++;
+        return least + number % (span + 1);
+    }
+
+  private:
+    const uint8_t* at_;
+    const uint8_t* end_;
+};
 
 // What both implementations are given.
 struct Scene {
@@ -34,13 +48,15 @@ using Implementation = bool (*)(const Scene&, const Outcome&);
 // Writes the fields of message files (docs/FORMATS.md).
 class Writer {
   public:
-    explicit Writer(FuzzedDataProvider& choices) : choices_(choices) {}
+    explicit Writer(Choices& choices) : choices_(choices) {}
 
     Bytes file(uint32_t client) {
-        size_t count = choices_.ConsumeIntegralInRange<size_t>(1, 8);
+        bool opens = pick(0, 7) > 0;
+        uint32_t count = pick(1, 8);
         out_ = {'V', 'I', 'Z', 'C', 2, 0};
-        sink(client), put(count, 4);
-        for (size_t i = 0; i < count; i++) message(client);
+        sink(client), put(count + (opens ? client == 1 ? 4 : 3 : 0), 4);
+        if (opens) opening(client);
+        for (uint32_t i = 0; i < count; i++) message(client);
         return out_;
     }
 
@@ -49,7 +65,7 @@ class Writer {
         for (int i = 0; i < width; i++) out_.push_back(static_cast<uint8_t>(number >> 8 * i));
     }
 
-    uint32_t pick(uint32_t least, uint32_t most) { return choices_.ConsumeIntegralInRange<uint32_t>(least, most); }
+    uint32_t pick(uint32_t least, uint32_t most) { return choices_.pick(least, most); }
 
     void sink(uint32_t client) { put(client, 4), put(1, 4); }
 
@@ -82,11 +98,13 @@ class Writer {
         put(clips, 1);
         if (clips) rectangle(pick(0, 4), pick(0, 4), pick(1, 8), pick(1, 8));
         put(pick(0, 255), 1), put(pick(0, 9) > 1 ? 0 : pick(1, 2), 1);
-        switch (uint32_t material = pick(1, 4)) {
+        // A pass that is no earlier one breaks a rule, so it is rare.
+        bool breaks = pick(0, 31) == 0;
+        switch (uint32_t material = pick(1, pass > 1 || breaks ? 4 : 3)) {
             case 1: put(1, 1), colour(); break;
             case 2: put(2, 1), put(pick(1, 2), 4), put(0, 2), put(0, 2); break;
             case 3: put(3, 1), range(), colour(); break;
-            default: put(material, 1), put(pick(1, pass), 4);
+            default: put(material, 1), put(breaks ? pass : pass - 1, 4);
         }
     }
 
@@ -106,12 +124,21 @@ class Writer {
         }
     }
 
+    void upload(uint32_t resource) {
+        put(1, 1), put(resource, 4), put(8, 2), put(8, 2);
+        for (int i = 0; i < 64; i++) put(0xff000000 | 0x010305u * i, 4);
+    }
+
+    // What most clients begin with, so that frames are accepted and something is drawn.
+    void opening(uint32_t client) {
+        upload(1), upload(2);
+        put(2, 1), local(1), frame(client);
+        if (client == 1) put(5, 1), local(1);
+    }
+
     void message(uint32_t client) {
         switch (pick(0, 11)) {
-            case 0:
-                put(1, 1), put(pick(1, 2), 4), put(8, 2), put(8, 2);
-                for (int i = 0; i < 64; i++) put(0xff000000 | 0x010305u * i, 4);
-                break;
+            case 0: upload(pick(1, 2)); break;
             case 1: put(3, 1), put(pick(0, 4), 4); break;
             case 2: put(4, 1); break;
             case 3: case 4: put(5, 1), local(pick(1, 2)); break;
@@ -122,25 +149,31 @@ class Writer {
         }
     }
 
-    FuzzedDataProvider& choices_;
+    Choices& choices_;
     Bytes out_;
 };
 
-Scene scene_of(FuzzedDataProvider& choices) {
-    Scene scene{choices.ConsumeIntegralInRange<uint32_t>(1, 16), choices.ConsumeIntegralInRange<uint32_t>(1, 16), {}, {}, {}};
-    uint32_t clients = choices.ConsumeIntegralInRange<uint32_t>(1, 3);
+Scene scene_of(Choices& choices) {
+    Scene scene{choices.pick(1, 16), choices.pick(1, 16), {}, {}, {}};
+    uint32_t clients = choices.pick(1, 3);
     for (uint32_t client = 1; client <= clients; client++) {
         Bytes file = Writer(choices).file(client);
         scene.lengths.push_back(file.size());
         scene.files.insert(scene.files.end(), file.begin(), file.end());
     }
-    size_t events = choices.ConsumeIntegralInRange<size_t>(0, 48);
-    for (size_t i = 0; i < events; i++) {
-        uint32_t event = choices.ConsumeIntegralInRange<uint32_t>(1, clients + 4);
+    // Most schedules take what the clients begin with at first.
+    bool opens = choices.pick(0, 3) > 0;
+    for (uint32_t client = clients; opens && client > 0; client--) {
+        scene.schedule.insert(scene.schedule.end(), 4, static_cast<uint8_t>(client));
+    }
+    for (uint32_t events = choices.pick(0, 48); events > 0; events--) {
+        uint32_t event = choices.pick(1, clients + 4);
         scene.schedule.push_back(static_cast<uint8_t>(event <= clients ? event : 0x10 + event - clients));
     }
     return scene;
 }
+
+size_t compared = 0;
 
 [[noreturn]] void give_up(const char* what, uint32_t answer) {
     std::fprintf(stderr, "%s: answer %u\n", what, answer);
@@ -179,9 +212,14 @@ void compare_with(Implementation other, const Scene& scene, const Outcome& made)
 }  // namespace
 
 extern "C" int LLVMFuzzerTestOneInput(const uint8_t* data, size_t size) {
-    FuzzedDataProvider choices(data, size);
+    Choices choices(data, size);
     Scene scene = scene_of(choices);
     if (scene.schedule.empty()) scene.schedule.push_back(0x11);
-    compare_with(plain, scene, compose(scene));
+    Outcome made = compose(scene);
+    compare_with(plain, scene, made);
+    compared += made.frames.size();
     return 0;
 }
+
+// How many bytes of frames were compared so far.
+size_t bytes_compared() { return compared; }
