@@ -1,5 +1,5 @@
 //! The walk that removes occluded items, from the last operation to the first.
-ghost use Rattle.std.specs.Prelude.{◌≡◌, ◌≤◌, ◌<◌, ℕ, [], ◌∷◌, drop, length, vec_len, true, List as Row, IfOk, OnOk};
+ghost use Rattle.std.specs.Prelude.{◌≡◌, ◌≤◌, ◌<◌, ℕ, [], ◌∷◌, drop, length, vec_len, true, List as Row, IfOk, OnOk, IsTrue};
 ghost use Rattle.vz_geom.specs.declared.Point.{Point as Place};
 ghost use Rattle.vz_pixels.specs.Colour.{Colour};
 ghost use Rattle.vz_flat.specs.declared.op.Op.{Op as Step};
@@ -184,6 +184,7 @@ fn remove_first(ops: &mut Vec<Op>, count: usize)
 /// has no more groups open at once. The list is changed in place. The only error is `Memory`, and
 /// then the operations are given up.
 pub(crate) fn remove_occluded(alloc: Global, ops: Ops) -> Result<(Ops, u64), Memory>
+    ensures nested { OnOk result (IsTrue (is_whole ops)) }
     ensures kept { IfOk result (λ culled. culled.0 ≡ kept_of ops) }
     ensures gone { IfOk result (λ culled. culled.1 ≡ gone_of ops) }
     ensures same { (p : Place) (d : Colour) → IfOk result

@@ -27,12 +27,13 @@ pub fn kept_is_the_same()
         → deepest 0 (kept ops) ≤ deepest 0 ops }
 {}
 
-/// An item is occluded exactly if one of the last occluders that come after it in its list has
+/// An item is occluded exactly if one of the last 64 occluders that come after it in its list has
 /// every point of its area. A `Blit` is opaque exactly if each texel that it draws is, and an
 /// occluder draws the same on every colour.
 pub fn occluded_is_covered()
     ensures occluded { (area : Rectangle) (later : Items) → IsTrue (is_occluded area later)
         ↔ Any (λ cover. Covers cover area) (take MOST_OCCLUDERS (occluders_of later)) }
+    ensures limit { MOST_OCCLUDERS ≡ 64 }
     ensures texels { (area : Rectangle) (block : Block) (tx ty : ℤ) → IsRectangle area
         → IsTrue (is_opaque_blit area block tx ty) ↔ ((p : Point) → IsTrue (has area p)
         → (laid_texel area block tx ty p).a ≡ 255) }

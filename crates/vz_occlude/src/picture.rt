@@ -1,15 +1,16 @@
 //! The picture of a drawing as operations, before and after occluded items are removed.
-ghost use Rattle.std.specs.Prelude.{◌≡◌, ◌≤◌, IfOk};
+ghost use Rattle.std.specs.Prelude.{◌≡◌, ◌≤◌, IfOk, IsTrue};
 ghost use Rattle.vz_geom.specs.declared.Point.{Point};
 ghost use Rattle.vz_geom.specs.Rectangle.{Covers, sized};
 ghost use Rattle.vz_geom.specs.Display.{IsDisplaySize};
 ghost use Rattle.vz_pixels.specs.Colour.{Colour};
-ghost use Rattle.vz_flat.specs.Ops.{value, deepest};
+ghost use Rattle.vz_flat.specs.Ops.{value, deepest, is_whole};
 ghost use Rattle.vz_occlude.specs.Occlusion.{kept as kept_of, gone as gone_of};
 
 use crate::culler::remove_occluded;
 use std::alloc::Global;
 use std::marker::Model;
+use std::snapshot::Snapshot;
 use std::sync::ledger::Ledger;
 use std::thread::Threads;
 use vz_base::Memory;
@@ -88,10 +89,12 @@ impl Picture for FlatPicture {
     }
 }
 
-/// A picture without its occluded items, which only `occlude` makes.
+/// A picture without its occluded items. Contracts see the operations of the whole picture, too:
+/// what was kept and how many items were removed is what occlusion says of them.
 #[derive(Drop)]
 pub struct Thin {
     size: Size,
+    whole: Snapshot<Ops>,
     ops: Ops,
     damage: Rect,
     gone: u64,
@@ -104,6 +107,7 @@ impl Model for Thin {
 
     ghost view = { λ p. record {
       size = p.size;
+      whole = p.whole.value;
       ops = p.ops;
       damage = p.damage;
       gone = p.gone;
@@ -111,6 +115,7 @@ impl Model for Thin {
 
     ghost invariant = { λ p. IsThinned (record {
       size = p.size;
+      whole = p.whole.value;
       ops = p.ops;
       damage = p.damage;
       gone = p.gone;
@@ -118,16 +123,22 @@ impl Model for Thin {
 }
 
 impl Thin {
-    /// The operations that were kept.
+    /// The operations that were kept of the whole ones: no occluded item is among them, and every
+    /// pixel has its colour.
     pub fn ops(&self) -> &Ops
-        ensures { result.now ≡ self.now.ops }
+        ensures value { result.now ≡ self.now.ops }
+        ensures nested { IsTrue (is_whole self.now.whole) }
+        ensures kept { self.now.ops ≡ kept_of self.now.whole }
+        ensures same { (q : Point) (d : Colour)
+            → value self.now.ops q d ≡ value self.now.whole q d }
     {
         &self.ops
     }
 
-    /// How many items were removed. A group that was removed counts once.
+    /// How many items were removed of the whole picture. A group that was removed counts once.
     pub fn gone(&self) -> u64
-        ensures { result ≡ self.now.gone }
+        ensures value { result ≡ self.now.gone }
+        ensures counted { self.now.gone ≡ gone_of self.now.whole }
     {
         self.gone
     }
@@ -197,6 +208,7 @@ impl ThinPicture for Thin {
 /// list, one of the last `MOST_OCCLUDERS` that leave nothing of what is behind them. Every pixel
 /// keeps its colour. The only error is `Memory`, and then the picture is given up.
 pub fn occlude(alloc: Global, p: FlatPicture) -> Result<Thin, Memory>
+    ensures whole { IfOk result (λ thin. thin.whole ≡ p.ops) }
     ensures ops { IfOk result (λ thin. thin.ops ≡ kept_of p.ops) }
     ensures gone { IfOk result (λ thin. thin.gone ≡ gone_of p.ops) }
     ensures damage { IfOk result (λ thin. thin.damage ≡ p.damage) }
@@ -206,9 +218,11 @@ pub fn occlude(alloc: Global, p: FlatPicture) -> Result<Thin, Memory>
     ensures deep { IfOk result (λ thin. deepest 0 thin.ops ≤ deepest 0 p.ops) }
 {
     let FlatPicture { size, ops, damage } = p;
+    let whole = Snapshot::of(&ops);
     let (ops, gone) = remove_occluded(alloc, ops)?;
     Ok(Thin {
         size,
+        whole,
         ops,
         damage,
         gone,

@@ -15,6 +15,12 @@ unreachable-requires c =
     (ap is_whole (c.from_vec-left.ensures ∙ (c.remove_first.ensures ∙ walked)) ∙ whole_kept c.into_vec.result.items whole) in
     absurd (cc)
 
+pub returns-clause-nested : goal.returns-clause-nested
+returns-clause-nested c = c.into_list.ensures.whole
+
+pub returns-then-removed-eq0-clause-nested : goal.returns-then-removed-eq0-clause-nested
+returns-then-removed-eq0-clause-nested c = c.into_list.ensures.whole
+
 pub returns-clause-kept : goal.returns-clause-kept
 returns-clause-kept c =
     let same = c.into_vec.ensures ∙ c.into_list.ensures.value in

@@ -11,6 +11,6 @@ paint_alone-requires g c = record {
 pub returns-clause-painted : goal.returns-clause-painted
 returns-clause-painted g c =
     let own : Thinned =
-    record { size = c.self.inside.size; ops = c.self.inside.ops; damage = c.self.inside.damage; gone = c.self.inside.gone } in
+    record { size = c.self.inside.size; whole = c.self.inside.whole.value; ops = c.self.inside.ops; damage = c.self.inside.damage; gone = c.self.inside.gone } in
     c.in_ok-paint_alone.ensures.painted
     ∙ painted_with own c.args.self.now c.args.buffer.now.size c.args.area c.args.buffer.now.pixels c.self.view_is c.requires.same
