@@ -1,7 +1,9 @@
 -- What the callers of a plan leave.
-use Rattle.std.specs.Prelude.{◌≡◌, ℕ, zero, suc, ◌≤◌, List, [], ◌∷◌, ◌++◌, length, Some}
+use Rattle.std.specs.Prelude.{◌≡◌, ℕ, ◌+◌, zero, suc, ◌≤◌, List, [], ◌∷◌, ◌++◌, length, Some}
+use Rattle.atomic_table.specs.Seated.{TableId}
+use Rattle.vz_loans.specs.Tokens.{Caller, unused, unused_from}
 use Rattle.vz_frame.specs.declared.message.ClientFile.{ClientFile}
-use Rattle.vz_rules.specs.Plan.{Plan}
+use Rattle.vz_rules.specs.Plan.{Plan, message_counts}
 use Rattle.vz_rules.specs.World.{file_of}
 use Rattle.vz_rules.specs.Step.{Legal}
 use Rattle.vz_rules.specs.Course.{displayed}
@@ -19,6 +21,13 @@ round = event.Begin ∷ event.Draw ∷ event.Done ∷ []
 abbrev pub rounds : ℕ → List Event
 rounds zero = []
 rounds (suc n) = round ++ rounds n
+
+-- a hub of this plan has the display and its clients as callers, and no call was made yet
+pub record IsOpened (p : Plan) (messages : List ℕ) (id : TableId) (count : ℕ) (clients : List (Caller Plan Entry)) (first : Caller Plan Entry) : Type 0 where
+  pub counts : messages ≡ message_counts p
+  pub callers : count ≡ length messages + 1
+  pub passes : clients ≡ unused_from id (Some p) 1 (length messages)
+  pub display : first ≡ unused id (Some p) 0
 
 -- a legal history in which the display's events are so many rounds, and each client has as many
 -- entries as its file has messages

@@ -1,10 +1,10 @@
 //! Plays a plan with callers on threads.
-ghost use Rattle.std.specs.Prelude.{◌≡◌, ◌≤◌, [], length, OnOk};
+ghost use Rattle.std.specs.Prelude.{◌≡◌, ◌≤◌, ◌<◌, [], length, vec_capacity, OnOk};
 ghost use Rattle.vz_base.specs.declared.limits.TheConstants.{MOST_FILES};
-ghost use Rattle.vz_rules.specs.Step.{Legal};
+ghost use Rattle.vz_rules.specs.Step.{Legal, world};
 ghost use Rattle.vz_rules.specs.World.{opening};
-ghost use Rattle.vz_rules.specs.Plan.{message_counts};
-ghost use Rattle.vz_callers.specs.Turns.{IsTurns};
+ghost use Rattle.vz_rules.specs.Plan.{Plan, message_counts};
+ghost use Rattle.vz_callers.specs.Turns.{IsTurns, IsOpened};
 
 use crate::beside::{Beside, play_beside};
 use crate::opening::{Opened, open_turns};
@@ -27,7 +27,7 @@ use vz_rules::Entry;
 ///
 /// Conditions: the machine is in the opening world of its plan, which has at most `MOST_FILES`
 /// files, and the history is empty. The error is `Memory` if an allocation fails. Then some calls
-/// were not made, and the history is legal.
+/// were not made, and the history has those that were made.
 pub fn play_turns<M: Machine + Send + Drop, G: Gate + Sync, R>(
     rt: &R,
     machine: M,
@@ -46,12 +46,53 @@ where
     ensures turns { OnOk result (IsTurns (M.state machine).plan ticks history.new) }
     ensures legal { Legal (M.state machine).plan history.new }
 {
+    let opened = open_turns(rt.alloc(), machine, messages.len())?;
+    let Played { machine, ended } = play_opened(rt, opened, messages, ticks, gate, history);
+    drop(machine);
+    ended
+}
+
+/// What is there after all calls.
+#[derive(Drop)]
+struct Played<M> {
+    /// The machine, in the world after the history.
+    machine: M,
+    /// Whether each call was made. If not, an allocation failed.
+    ended: Result<(), Memory>,
+}
+
+/// Plays the plan of a hub that was just opened, and ends the hub. `history` gets all entries that
+/// were made, also if an allocation failed: the machine comes back in the world after them.
+/// Condition: there is room for each thread.
+fn play_opened<M: Machine + Send + Drop, G: Gate + Sync, R>(
+    rt: &R,
+    opened: Opened<M>,
+    messages: &[u64],
+    ticks: u32,
+    gate: &G,
+    history: &mut List<Entry>,
+) -> Played<M>
+where
+    M::Picture: Send + Drop,
+    R: Threads + Wait + AllocGlobal + Sync,
+    requires opened { (p : Plan) × IsOpened p messages.now opened.hub.id opened.hub.callers
+        opened.passes.items opened.display }
+    requires spare { length messages.now < vec_capacity opened.passes }
+    requires room { (opened.started.items ≡ [])
+        × (length messages.now ≤ vec_capacity opened.started) }
+    ensures behind { (M.state result.machine).world
+        ≡ world (M.state result.machine).plan history.new }
+    ensures legal { (p : Plan) → IsOpened p messages.now opened.hub.id opened.hub.callers
+        opened.passes.items opened.display → Legal p history.new }
+    ensures turns { (p : Plan) → IsOpened p messages.now opened.hub.id opened.hub.callers
+        opened.passes.items opened.display → OnOk result.ended (IsTurns p ticks history.new) }
+{
     let Opened {
         hub,
         passes,
         display,
         started,
-    } = open_turns(rt.alloc(), machine, messages.len())?;
+    } = opened;
     let Beside {
         mut passes,
         display,
@@ -59,7 +100,17 @@ where
         complete,
     } = play_beside(rt, &hub, gate, messages, ticks, started, passes, display);
     passes.push_reserved(display);
-    let (_machine, gathered) = hub.close(passes);
+    let (machine, gathered) = hub.close(passes);
     *history = gathered;
-    if complete { played } else { Err(Memory) }
+    if complete {
+        Played {
+            machine,
+            ended: played,
+        }
+    } else {
+        Played {
+            machine,
+            ended: Err(Memory),
+        }
+    }
 }
