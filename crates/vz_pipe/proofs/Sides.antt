@@ -1,6 +1,5 @@
 -- What the two sides know after a step.
-use Rattle.std.proofs.Common.{◌≡◌, true, false, List, [], ◌∷◌, ◌++◌, sym, ap, ◌∙◌, append_assoc, append-nil, Result, Ok, Err}
-use Rattle.std.specs.Prelude.{MatchResult}
+use Rattle.std.proofs.Common.{◌≡◌, true, false, List, [], ◌∷◌, ◌++◌, sym, ap, ◌∙◌, append_assoc, append-nil}
 use Rattle.vz_pipe.specs.declared.parcel.Parcel.{Parcel}
 use Rattle.vz_pipe.specs.declared.parcel.Parcel.TheVariants.{Frame, End}
 use Rattle.vz_pipe.specs.declared.view.View.{View}
@@ -25,10 +24,9 @@ module _ {T : Type 0} where
     all_is = ap (λ (u : View T). frames u.put ++ rest) h ∙ ap (λ l. l ++ rest) (frames_append v.put (Frame x ∷ [])) ∙ append_assoc (frames v.put) (x ∷ []) rest ∙ ap (λ l. frames v.put ++ l) (sym e) ∙ a;
   }
 
-  -- the mark changes no frame, whether it went in or was handed back
-  pub puts_mark : {A E : Type 0} (r : Result A E) (X : E → Type 0) (v w : View T) → v ≡ sending v.put [] → MatchResult r (λ _. puts v End w) (λ e. X e × (w ≡ v)) → (frames w.put ≡ frames v.put) × (w ≡ sending w.put [])
-  puts_mark (Ok _) X v w k h = (ap (λ (u : View T). frames u.put) h ∙ frames_mark v.put, puts_sending v w End [] k h)
-  puts_mark (Err e) X v w k h = (ap (λ (u : View T). frames u.put) h.1, h.1 ∙ k ∙ ap (λ (u : View T). sending u.put []) (sym h.1))
+  -- the mark went into the channel, and changed no frame
+  pub puts_mark : (v w : View T) → puts v End w → (frames w.put ≡ frames v.put) × (has_end w.put ≡ true)
+  puts_mark v w h = (ap (λ (u : View T). frames u.put) h ∙ frames_mark v.put, ap (λ (u : View T). has_end u.put) h ∙ marked v.put)
 
   -- a frame came from the channel
   pub got_frame : (got more : List (Parcel T)) (had still : List T) (x : T) (taken : List T) → frames got ++ had ≡ taken → more ≡ got ++ Frame x ∷ [] → had ≡ [] → still ≡ [] → frames more ++ still ≡ taken ++ x ∷ []

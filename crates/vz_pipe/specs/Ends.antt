@@ -1,5 +1,5 @@
 -- What contracts see in the ends of a pipe.
-use Rattle.std.specs.Prelude.{◌≡◌, Bool, false, List, []}
+use Rattle.std.specs.Prelude.{◌≡◌, Bool, false, ◌||◌, List, []}
 use Rattle.atomic_table.specs.Seated.{TableId}
 use Rattle.atomic_table.specs.declared.badge.Badge.{Badge}
 use Rattle.crossbeam_channel.specs.declared.flavors.array.Rows.{Rows}
@@ -15,13 +15,18 @@ pub record PipeId (T : Type 0) : Type 0 where
   pub table : TableId
   pub key : Badge (Key (Parcel T))
 
--- a sender: its pipe, the frames that were sent, those of them that wait in its list, and
--- whether it is shut, so that nothing more goes into the channel
+-- a sender: its pipe, the frames that were sent, those of them that wait in its list, whether the
+-- mark of the end went into the channel, and whether the channel handed a parcel back
 pub record Sending (T : Type 0) : Type 0 where
   pub pipe : PipeId T
   pub sent : List T
   pub waiting : List T
-  pub shut : Bool
+  pub marked : Bool
+  pub cut : Bool
+
+-- the sender is shut: nothing more goes into the channel
+abbrev pub is_shut : {T : Type 0} → Sending T → Bool
+is_shut s = s.marked || s.cut
 
 -- what a sender leaves: its pipe, the frames that were sent, and those of them that wait in its
 -- list
@@ -38,7 +43,7 @@ pub record Taking (T : Type 0) : Type 0 where
 
 -- a sender that has sent nothing
 abbrev pub unused_sender : {T : Type 0} → PipeId T → Sending T
-unused_sender pipe = record { pipe = pipe; sent = []; waiting = []; shut = false }
+unused_sender pipe = record { pipe = pipe; sent = []; waiting = []; marked = false; cut = false }
 
 -- a receiver that has taken nothing
 abbrev pub unused_receiver : {T : Type 0} → PipeId T → Taking T

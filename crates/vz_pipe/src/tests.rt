@@ -1,5 +1,5 @@
-//! Tests of what no clause says: that two threads pass frames through the channel at once, and
-//! when the channel hands a frame back.
+//! Tests of what no clause says: that two threads pass frames through the channel at once, when
+//! the channel hands a frame back, and that `left` waits for nobody.
 ghost use Rattle.std.specs.Prelude.{◌≡◌, ◌++◌, true, IfOk};
 
 use crate::{Receiver, Sender, Sent, pipe};
@@ -137,5 +137,16 @@ fn a_frame_that_is_handed_back_stays_in_the_list(rt: HostRuntime) -> Result<(), 
     let sent = sender.end(&rt);
     let waiting = sent.waiting();
     assert!(&rt; fits & (waiting == 2));
+    Ok(())
+}
+
+#[test]
+fn what_is_left_waits_for_no_mark(rt: HostRuntime) -> Result<(), Fail> {
+    let (mut sender, mut receiver) = pipe::<u64>(rt.alloc(), 2)?;
+    let fits = sender.send(&rt, 1, true).is_ok() & sender.send(&rt, 2, false).is_ok();
+    let mut sent = sender.end(&rt);
+    let first = receiver.left(&rt, &mut sent) == Some(1);
+    let second = receiver.left(&rt, &mut sent) == Some(2);
+    assert!(&rt; fits & first & second);
     Ok(())
 }
