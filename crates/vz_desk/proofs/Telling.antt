@@ -87,11 +87,11 @@ module _ {S : Type 0} {n : ℕ} where
   tells_booked m spare old c e listed is entry lists told timely few noted_is timely_is = grind (arith, nat_tests, note_is old.plan old.history c e listed is.legal)
 
   -- what is told of an entry that a step made
-  pub tells_next : (m : Machine) (spare : ℕ) (old : Booked S) (c : ℕ) (s : Step) (e : Entry) (listed : ℕ) (h h1 g f : List Entry) (r : Option S) (note told : Note) (timely : Bool)
-      → IsBooked m n spare (record { plan = m.plan; history = h; reason = r }) → record { plan = m.plan; history = h; reason = r } ≡ old → Answers m (event.Client c) s
+  pub tells_next : {a : Option ℕ} (m : Machine) (spare : ℕ) (old : Booked S) (c : ℕ) (s : Step) (e : Entry) (listed : ℕ) (h h1 g f : List Entry) (r : Option S) (note told : Note) (timely : Bool)
+      → IsBooked m n spare (record { plan = m.plan; history = h; reason = r; awaited = a }) → record { plan = m.plan; history = h; reason = r; awaited = a } ≡ old → Answers m (event.Client c) s
       → e ≡ record { event = event.Client c; reply = s.reply; effects = s.effects } → listed ≡ listed_at m c → h1 ≡ h → g ≡ h1 ++ e ∷ [] → f ≡ g → length f < 2 ^ 64
       → note ≡ noted_with e listed 0 → told ≡ record note { place = length f } → timely ≡ is_in_time e.reply → TellsNext old c told timely
-  tells_next m spare old c s e listed h h1 g f r note told timely is view answers entry lists same more as_slice few noted_is told_is timely_is =
+  tells_next {a = a} m spare old c s e listed h h1 g f r note told timely is view answers entry lists same more as_slice few noted_is told_is timely_is =
       let long : length f ≡ length old.history + 1 = ap length (as_slice ∙ more ∙ ap (λ l. l ++ e ∷ []) (same ∙ ap (λ (b : Booked S). b.history) view)) ∙ length-append old.history (e ∷ []) in
       tells_booked m spare old c e listed (subst (IsBooked m n spare) view is) (entry_is m (event.Client c) s e answers entry) lists told timely (subst (λ n. n < 2 ^ 64) long few)
       (told_is ∙ (λ i. record (noted_is i) { place = long i })) timely_is

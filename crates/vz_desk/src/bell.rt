@@ -1,7 +1,9 @@
 //! A bell that threads wait for.
+ghost use Rattle.std.specs.Prelude.{◌≢◌, IfSome};
+
 use std::hint::spin_loop;
-use std::sync::Wait;
 use std::sync::atomic::{AtomicU64, Ordering};
+use std::sync::{Condvar, Mutex, Wait};
 
 /// How often who watches a bell looks at it before it sleeps: in each turn `GLANCES` times. That
 /// is about 30 microseconds.
@@ -13,16 +15,17 @@ const GLANCES: u32 = 16;
 /// For how many waits at most nobody watches a bell after it was watched in vain.
 const MOST_SKIPS: u64 = 64;
 
-/// A bell, which wakes the threads that wait for it. No clause says anything about it.
+/// A bell, which wakes the threads that wait for it. Who waits returns only after it saw another
+/// number of rings than it had heard; no clause says that a ring wakes it.
 ///
-/// A thread is counted in `sleepers` before it looks at `rings` and sleeps, and who rings looks at
-/// `sleepers` after `rings` has risen. So no ring is missed, and one that nobody waits for is no
-/// call of the system. `vain` is how often it was watched in vain, one time after the other, and
+/// `rings` is how often it has rung, modulo 2^64, and `shown` is the same number, for those who
+/// look without the lock. `vain` is how often it was watched in vain, one time after the other, and
 /// `skips` how often it is not to be watched now.
 #[derive(Drop)]
 pub struct Bell {
-    rings: AtomicU64,
-    sleepers: AtomicU64,
+    rings: Mutex<u64>,
+    rung: Condvar,
+    shown: AtomicU64,
     vain: AtomicU64,
     skips: AtomicU64,
 }
@@ -31,8 +34,9 @@ impl Bell {
     /// Makes a bell that has not rung.
     pub fn new() -> Bell {
         Bell {
-            rings: AtomicU64::new(0),
-            sleepers: AtomicU64::new(0),
+            rings: Mutex::new(0),
+            rung: Condvar::new(),
+            shown: AtomicU64::new(0),
             vain: AtomicU64::new(0),
             skips: AtomicU64::new(0),
         }
@@ -40,40 +44,49 @@ impl Bell {
 
     /// How often it has rung, modulo 2^64.
     pub fn rings(&self) -> u64 {
-        self.rings.load(Ordering::SeqCst)
+        self.shown.load(Ordering::SeqCst)
     }
 
     /// Rings, and wakes all threads that wait.
-    pub fn ring(&self) {
-        self.rings.fetch_add(1, Ordering::SeqCst);
-        if self.sleepers.load(Ordering::SeqCst) != 0 {
-            self.rings.wake_all();
-        }
+    pub fn ring<R: Wait>(&self, rt: &R) {
+        let mut rings = self.rings.lock(rt);
+        let count = (*rings).wrapping_add(1);
+        *rings = count;
+        self.shown.store(count, Ordering::SeqCst);
+        drop(rings);
+        self.rung.notify_all();
     }
 
     /// Rings if `due` is true.
-    pub fn ring_if(&self, due: bool) {
+    pub fn ring_if<R: Wait>(&self, rt: &R, due: bool) {
         if due {
-            self.ring();
+            self.ring(rt);
         }
     }
 
-    /// Waits until it has rung more often than `heard`.
-    pub fn wait_beyond<R: Wait>(&self, rt: &R, heard: u64) {
-        self.sleepers.fetch_add(1, Ordering::SeqCst);
-        self.sleep_beyond(rt, heard);
-        self.sleepers.fetch_sub(1, Ordering::SeqCst);
+    /// Waits until it has rung more often than `heard`. Returns how often it has rung then, modulo
+    /// 2^64.
+    pub fn wait_beyond<R: Wait>(&self, rt: &R, heard: u64) -> u64
+        ensures { result ≢ heard }
+    {
+        let rings = self.rings.lock(rt);
+        let rings = self.rung.wait_while(rt, rings, |rings| *rings == heard);
+        *rings
     }
 
     /// Waits until it has rung more often than `heard`, as `wait_beyond` does, but looks for some
     /// microseconds before it sleeps. Who is about to ring then need not wake it, and it goes on
     /// at once, where the system would take longer to wake it than it waited. Each time that this
     /// was in vain, it sleeps at once for one wait more than the last time.
-    pub fn watch_beyond<R: Wait>(&self, rt: &R, heard: u64) {
-        if self.may_watch() && self.watches_beyond(heard) {
-            return;
+    pub fn watch_beyond<R: Wait>(&self, rt: &R, heard: u64) -> u64
+        ensures { result ≢ heard }
+    {
+        if self.may_watch() {
+            if let Some(rings) = self.watches_beyond(heard) {
+                return rings;
+            }
         }
-        self.wait_beyond(rt, heard);
+        self.wait_beyond(rt, heard)
     }
 
     // Whether the bell is to be watched now. If not, there is one skip less.
@@ -87,46 +100,45 @@ impl Bell {
     }
 
     // Looks for some microseconds whether it has rung more often than `heard`, and keeps whether
-    // that was in vain.
-    fn watches_beyond(&self, heard: u64) -> bool {
-        if self.hears_beyond(heard) {
+    // that was in vain. Returns how often it has rung, or None if that was in vain.
+    fn watches_beyond(&self, heard: u64) -> Option<u64>
+        ensures { IfSome result (λ rings. rings ≢ heard) }
+    {
+        if let Some(rings) = self.hears_beyond(heard) {
             self.vain.store(0, Ordering::SeqCst);
-            return true;
+            return Some(rings);
         }
         let vain = self.vain.load(Ordering::SeqCst).saturating_add(1);
         self.vain.store(vain, Ordering::SeqCst);
         self.skips.store(vain.min(MOST_SKIPS), Ordering::SeqCst);
-        false
+        None
     }
 
-    // Looks for some microseconds whether it has rung more often than `heard`.
-    fn hears_beyond(&self, heard: u64) -> bool {
+    // Looks for some microseconds whether it has rung more often than `heard`. Returns how often
+    // it has rung, or None if it has not.
+    fn hears_beyond(&self, heard: u64) -> Option<u64>
+        ensures { IfSome result (λ rings. rings ≢ heard) }
+    {
         for _ in 0..TURNS {
-            if self.glances_beyond(heard) {
-                return true;
+            if let Some(rings) = self.glances_beyond(heard) {
+                return Some(rings);
             }
             spin_loop();
         }
-        false
+        None
     }
 
-    // Looks some times whether it has rung more often than `heard`.
-    fn glances_beyond(&self, heard: u64) -> bool {
+    // Looks some times whether it has rung more often than `heard`. Returns how often it has rung,
+    // or None if it has not.
+    fn glances_beyond(&self, heard: u64) -> Option<u64>
+        ensures { IfSome result (λ rings. rings ≢ heard) }
+    {
         for _ in 0..GLANCES {
-            if self.rings() != heard {
-                return true;
+            let rings = self.rings();
+            if rings != heard {
+                return Some(rings);
             }
         }
-        false
-    }
-
-    // Sleeps until it has rung more often than `heard`. A sleep may also end without a ring.
-    fn sleep_beyond<R: Wait>(&self, rt: &R, heard: u64) {
-        for _ in rt.forever() {
-            if self.rings() != heard {
-                return;
-            }
-            self.rings.park(rt, (heard & 0xffff_ffff) as u32);
-        }
+        None
     }
 }

@@ -1,12 +1,12 @@
 //! The state in a desk's lock.
-ghost use Rattle.std.specs.Prelude.{◌≡◌, ◌<◌, ◌≤◌, [], length, IfOk, OnOk, OnErr, IsTrue, is_some, Some, None, unwrap_or};
+ghost use Rattle.std.specs.Prelude.{◌≡◌, ◌<◌, ◌≤◌, [], length, IfOk, OnOk, OnErr, IsTrue, is_some, None};
 ghost use Rattle.std.specs.Option.{option_map};
 ghost use Rattle.vz_base.specs.declared.limits.TheConstants.{MOST_FILES};
 ghost use Rattle.vz_rules.specs.declared.entry.Event.TheVariants as event;
 ghost use Rattle.vz_rules.specs.World.{opening};
 ghost use Rattle.vz_rules.specs.Step.{NamesClient, Legal};
 ghost use Rattle.vz_machine.specs.Stepping.{ShowsDrawn, waits_at, idle_at};
-ghost use Rattle.vz_desk.specs.Books.{booked_on, next_entry, machine_of};
+ghost use Rattle.vz_desk.specs.Books.{booked_on, stopped_with, next_entry, machine_of};
 ghost use Rattle.vz_desk.specs.Totals.{TellsNext};
 
 use crate::Note;
@@ -22,7 +22,8 @@ use vz_rules::{Entry, Event, Plan};
 mod shown;
 
 /// A machine with its history so far, and the reason of the first stop, if there was one. While
-/// the display waits in a pause, `awaited` is a client for which it waited when it last looked.
+/// the display waits in a pause, `awaited` is a client for which it had to wait when it last
+/// looked.
 #[derive(Drop)]
 pub struct Book<M: Machine, S> {
     machine: M,
@@ -41,12 +42,14 @@ impl<M: Machine, S> Model for Book<M, S> {
       plan = (M.state b.machine).plan;
       history = b.history.list;
       reason = b.reason;
+      awaited = b.awaited;
     } };
 
     ghost invariant = { λ b. IsBooked (M.state b.machine) b.clients b.history.spare (record {
       plan = (M.state b.machine).plan;
       history = b.history.list;
       reason = b.reason;
+      awaited = b.awaited;
     }) };
 }
 
@@ -72,6 +75,7 @@ impl<M: Machine, S: Copy> Book<M, S> {
         ensures plan { result.plan ≡ (M.state machine).plan }
         ensures history { result.history ≡ [] }
         ensures reason { result.reason ≡ None }
+        ensures awaited { result.awaited ≡ None }
     {
         Book {
             machine,
@@ -183,8 +187,7 @@ impl<M: Machine, S: Copy> Book<M, S> {
 
     /// Keeps a reason, unless one is kept already.
     pub fn stop(&mut self, why: S)
-        ensures value { self.new
-            ≡ record self.old { reason = Some (unwrap_or self.old.reason why) } }
+        ensures value { self.new ≡ stopped_with self.old why }
         ensures legal { Legal self.new.plan self.new.history }
     {
         if self.reason.is_none() {

@@ -45,10 +45,12 @@ where
         ensures none { MakesNone by.old by.new }
     {
         let mut book = self.lock.enter(rt, &mut by.token);
+        let found = book.reason();
         book.stop(why);
+        book.keeps_first(&found, &why);
         self.lock.leave(&mut by.token, book);
-        self.clients.ring();
-        self.display.ring();
+        self.clients.ring(rt);
+        self.display.ring(rt);
     }
 
     /// Takes the next message of the end's client, and makes one entry, also if the answer is
@@ -92,7 +94,7 @@ where
             if let Some(answer) = self.take(rt, end, true)? {
                 return Ok(answer);
             }
-            self.clients.wait_beyond(rt, heard);
+            let _ = self.clients.wait_beyond(rt, heard);
         }
         unreachable!()
     }
@@ -128,7 +130,7 @@ where
                 let calm = book.ends_pause();
                 self.lock.leave(&mut end.token, book);
                 end.totals = end.totals.with(&note, in_time);
-                self.display.ring_if(calm);
+                self.display.ring_if(rt, calm);
                 Ok(Some(Answer::Did(note)))
             }
             Err(memory) => {

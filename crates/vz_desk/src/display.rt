@@ -50,7 +50,7 @@ where
             Ok(()) => {
                 let place = book.places();
                 self.lock.leave(&mut d.token, book);
-                self.clients.ring();
+                self.clients.ring(rt);
                 d.begins += 1;
                 Ok(Answer::Did(plain_note(place)))
             }
@@ -79,7 +79,7 @@ where
             Ok(()) => {
                 let place = book.places();
                 self.lock.leave(&mut d.token, book);
-                self.clients.ring();
+                self.clients.ring(rt);
                 Ok(Answer::Did(plain_note(place)))
             }
             Err(memory) => {

@@ -49,7 +49,7 @@ where
                     }
                 }
             }
-            self.display.watch_beyond(rt, heard);
+            let _ = self.display.watch_beyond(rt, heard);
         }
         unreachable!()
     }
@@ -62,8 +62,10 @@ where
         ensures none { MakesNone by.old by.new }
     {
         let mut book = self.lock.enter(rt, &mut by.token);
+        let found = book.reason();
         book.stop(why);
+        book.keeps_first(&found, &why);
         self.lock.leave(&mut by.token, book);
-        self.clients.ring();
+        self.clients.ring(rt);
     }
 }

@@ -6,7 +6,7 @@ use vz_desk::Bell;
 fn a_ring_wakes_who_waits(rt: HostRuntime) {
     let bell = Bell::new();
     let heard = bell.rings();
-    thread::join(&rt, || bell.wait_beyond(&rt, heard), || bell.ring());
+    thread::join(&rt, || bell.wait_beyond(&rt, heard), || bell.ring(&rt));
     assert!(&rt; bell.rings() == 1);
 }
 
@@ -14,7 +14,7 @@ fn a_ring_wakes_who_waits(rt: HostRuntime) {
 fn a_ring_is_heard_by_who_watches(rt: HostRuntime) {
     let bell = Bell::new();
     for heard in 0..200 {
-        thread::join(&rt, || bell.watch_beyond(&rt, heard), || bell.ring());
+        thread::join(&rt, || bell.watch_beyond(&rt, heard), || bell.ring(&rt));
         assert!(&rt; bell.rings() == heard + 1);
     }
 }

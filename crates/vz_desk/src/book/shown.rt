@@ -1,8 +1,8 @@
 //! What the display asks of a book, and how a book ends.
-ghost use Rattle.std.specs.Prelude.{◌≡◌, OnOk, OnErr, None, IfSome, length, is_none, true};
+ghost use Rattle.std.specs.Prelude.{◌≡◌, OnOk, OnErr, None, IfSome, length, is_none, is_some, true, ◌&&◌, Some, unwrap_or};
 ghost use Rattle.vz_rules.specs.declared.entry.Event.TheVariants as event;
 ghost use Rattle.vz_rules.specs.Step.{NamesClient, Legal};
-ghost use Rattle.vz_desk.specs.Books.{booked_on, machine_of};
+ghost use Rattle.vz_desk.specs.Books.{booked_on, awaiting, machine_of};
 ghost use Rattle.vz_rules.specs.Course.{is_calm};
 ghost use Rattle.vz_desk.specs.Calm.{restless_at};
 
@@ -74,12 +74,15 @@ impl<M: Machine, S: Copy> Book<M, S> {
     }
 
     /// Whether a pause may end: each attached client is idle or has answered the current
-    /// begin-frame. If it may not, the book keeps that a pause waits. Condition: no reason is
-    /// kept.
+    /// begin-frame. If it may not, the book keeps that a pause waits, and a client for which it
+    /// has to wait. Condition: no reason is kept.
     pub fn pause(&mut self) -> bool
         requires running { self.old.reason ≡ None }
-        ensures same { self.new ≡ self.old }
+        ensures same { self.new ≡ awaiting self.old self.new.awaited }
         ensures calm { result ≡ is_calm self.old.plan (machine_of self.old).world }
+        ensures awaits { is_none self.new.awaited ≡ result }
+        ensures restless { IfSome self.new.awaited
+            (λ c. restless_at (machine_of self.old) c ≡ true) }
     {
         let restless = self.restless(self.awaited.unwrap_or(0));
         let calm = restless.is_none();
@@ -90,13 +93,20 @@ impl<M: Machine, S: Copy> Book<M, S> {
     /// Whether a pause waits, and may end now. Condition: no reason is kept.
     pub fn ends_pause(&self) -> bool
         requires running { self.now.reason ≡ None }
-        ensures { result ≡ true → is_calm self.now.plan (machine_of self.now).world ≡ true }
+        ensures { result ≡ (is_some self.now.awaited
+            && is_calm self.now.plan (machine_of self.now).world) }
     {
         match self.awaited {
             None => false,
             Some(client) => self.restless(client).is_none(),
         }
     }
+
+    /// Does nothing. Who stops a desk calls it at the end of its turn, and so owes its condition:
+    /// the book keeps the reason that was found, or else the one that was given.
+    pub fn keeps_first(&self, found: &Option<S>, why: &S)
+        requires { self.now.reason ≡ Some (unwrap_or found.now why.now) }
+    {}
 
     /// Returns the machine and the history. It takes no memory.
     pub fn into_gathered(self) -> Gathered<M>
