@@ -2,7 +2,11 @@
 //! the call `viz` of the crate `viz_run`.
 #![tactic(auto)]
 
-ghost use Rattle.std.specs.Prelude.{◌≡◌, ◌<◌};
+ghost use Rattle.std.specs.Prelude.{◌≡◌, ◌<◌, ℕ};
+ghost use Rattle.std.specs.Process.{exit_status};
+ghost use Rattle.vz_words.specs.Words.{texts};
+ghost use Rattle.viz_run.specs.Site.{outside};
+ghost use Rattle.viz.specs.Ended.{EndsWith};
 
 use std::alloc::AllocError;
 use std::io::ErrorKind;
@@ -42,27 +46,31 @@ fn main(rt: HostRuntime) -> ExitCode {
     };
     let mut shelf = RealShelf::new(files);
     let mut out = RealSink::new(rt.stdout());
-    ExitCode::from(run::<Brand, _, _, _>(&rt, &words, &mut shelf, &mut out, Blank::new(1)))
+    run::<Brand, _, _, _>(&rt, &words, &mut shelf, &mut out, Blank::new(1))
 }
 
-/// Runs the words of a command line, and returns the status.
+/// Runs the words of a command line. The process ends with the status of the call: contracts say
+/// of that number, for some history and some count of pixels, what `viz` says of its status.
 fn run<L: Ledger, F: Shelf + Send, O: Sink, R: Threads + Wait + AllocGlobal + Sync>(
     rt: &R,
     words: &[String],
     shelf: &mut F,
     out: &mut O,
     blank: Blank,
-) -> u8
+) -> ExitCode
     requires name { blank.name ≡ L.name }
     requires parts { blank.parts ≡ L.parts }
     requires some { 0 < L.parts }
+    ensures { (painted : ℕ) × EndsWith (texts words.now) (exit_status result)
+        (outside (F.shelved shelf.old) (O.sunk out.old) 0)
+        (outside (F.shelved shelf.new) (O.sunk out.new) painted) }
 {
     let mut steps = Steps::<L>::new(blank);
     let ended = viz(rt, words, shelf, out, &OpenGate, &mut steps);
     let status = ended.status;
     // The system takes the memory of the history back with the process.
     mem::forget(ended);
-    status
+    ExitCode::from(status)
 }
 
 /// The words after the program's name. If one of them is not UTF-8, the list is empty, so that
