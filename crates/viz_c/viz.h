@@ -3,15 +3,22 @@
  *     size_t at;
  *     uint32_t answer = viz_decode(bytes, n, &at);     // VIZ_DONE, or a rule, which is broken at byte `at`
  *
- * Link crates/viz_c/out/libviz_c.a, and the kit's c/liblibc_c.a (the heap over malloc, realloc and free).
+ * Link crates/viz_c/out/libviz_c.a, and the kit's c/liblibc_c.a (the heap over malloc, realloc and free, which have to be
+ * of one allocator, and to align as C wants).
  * README.md says what is proved of each call.
  *
  * For every call:
- * - No pointer may be null, not even with a length of 0.
- * - What a call writes overlaps nothing else that it is given.
+ * - No pointer may be null, not even with a length of 0. Each is aligned as C wants it of its type; bytes may lie anywhere.
+ * - What a pointer to const leads to is set before the call, and so is a viz_session. Rooms and results (all other pointers)
+ *   need not be: no call looks at what is in them.
+ * - There is as much as a length says: so many bytes, or so many lengths. It is PTRDIFF_MAX bytes or less.
+ * - What a call writes overlaps nothing else that it is given. What it only reads may overlap, or be the same.
+ * - A room or a result that is not named at an answer stays as it was with that answer, and so does what is in a room
+ *   behind the length that is told.
  * - A call keeps nothing but in a viz_session. What else it allocates it frees before it returns, so a want of memory
- *   loses nothing. Any number of threads may call at the same time, but no signal handler may.
- * - The stack has to have 256 KiB left.
+ *   loses nothing. Any number of threads may call at the same time, but no signal handler may, and no child that a
+ *   process with threads forked.
+ * - VIZ_STACK bytes of stack have to be left, to viz_check VIZ_STACK_CHECK.
  * - Lengths and places count bytes, sides and points count pixels.
  */
 #ifndef VIZ_H
@@ -30,6 +37,12 @@ extern "C" {
 
 /* The number of lengths that viz_gen tells. */
 #define VIZ_GEN_FILES 3
+
+/* So many bytes of stack have to be left when viz_check is called, or another function. This is measured, not proved, on
+ * the program's commands step, hit and check, which do the same: on the deepest input (64 surfaces with 16 nested groups
+ * each) the first two take 588 KiB and check 1,416, on all others 80 or less. */
+#define VIZ_STACK (640 * 1024)
+#define VIZ_STACK_CHECK (1536 * 1024)
 
 /* What a call answers. */
 enum viz_answer {
@@ -97,7 +110,8 @@ struct viz_area {
  *     struct viz_session session = {0};
  *
  * The fields belong to the library: read `is_open` if you want, write neither, copy no session that is open, and close
- * each before its struct goes. A session stays on the thread that opened it. */
+ * each before its struct goes. A session stays on the thread that opened it. Once it is closed it is as a struct of zeros
+ * again, and may be opened again, over other files too. */
 struct viz_session {
     void *at;
     bool is_open;
@@ -180,7 +194,10 @@ uint32_t viz_entry(struct viz_session *session, uint8_t *line, size_t line_room,
 
 /* The picture of the last event that was answered Drawn. It paints all of it, whatever changed. It answers
  * - VIZ_DONE: the pixels are at the front of `pixels` (as one frame of viz_step), pixels_len gets their length, and
- *   `damage` the rectangle outside which the picture is that of the drawing before.
+ *   `damage` the rectangle outside which the picture is that of the drawing before, if the clients are honest: if the
+ *   frames of each tell as their damage all that they change. If one is not, the picture is still that of its frames,
+ *   and may differ from the drawing before anywhere; a frame of viz_step, where only the damage is painted anew, then
+ *   keeps older pixels outside it.
  * - VIZ_ROOM: `pixels` is too small, and as before. pixels_len is set.
  * - VIZ_NOTHING: nothing was drawn yet.
  * - VIZ_CALL: the session is closed. VIZ_MEMORY.
