@@ -1,10 +1,12 @@
 /* Steps a session event by event, and sees that it leaves what viz_step leaves of the whole schedule:
  *
- *     session [W H SCHEDULE FILE..]     the files of a page by rule, and a schedule of 17 events, if none are given
+ *     session [W H SCHEDULE FILE..]              the files of a page by rule, and a schedule of 17 events, if none are given
+ *     session --dishonest W H SCHEDULE FILE..    a client's frame changes pixels outside the damage that it tells
  *
- * Each entry is compared with its line of the log, and the picture of each drawing with its frame. A second session
- * goes through the same events while each growth of memory fails in turn: the call then answers VIZ_MEMORY, and the
- * next try goes on from there. At the end nothing is left that was allocated.
+ * Each entry is compared with its line of the log, and the picture of each drawing with its frame and, outside its
+ * damage, with the picture before. If a client is dishonest, one picture has to differ there, and no frame is compared.
+ * The same session goes once more through the same events while each growth of memory fails in turn: the call then answers
+ * VIZ_MEMORY, and the next try goes on from there. At the end nothing is left that was allocated.
  */
 #include "viz.h"
 #include <stdio.h>
@@ -35,10 +37,13 @@ void __wrap_free(void *p) {
 }
 
 static const uint8_t by_rule[] = {1, 1, 1, 1, 1, 1, 17, 2, 2, 2, 2, 3, 3, 3, 3, 18, 19};
-static uint8_t schedule[1 << 17], files[BYTES], frames[BYTES], text[BYTES], line[1 << 20], pixels[2048 * 2048 * 4];
+static uint8_t schedule[1 << 17], files[BYTES], frames[BYTES], text[BYTES], line[1 << 20];
+static uint8_t pixels[2048 * 2048 * 4], before[2048 * 2048 * 4];
 static size_t lengths[MOST_FILES], count, files_len, frames_len, text_len, events;
 static uint32_t w = 64, h = 32;
+static int is_dishonest;
 static struct viz_cause cause;
+static struct viz_session session;
 
 static void stop(const char *why, size_t at) {
     fprintf(stderr, "session: %s (event %zu)\n", why, at);
@@ -66,11 +71,22 @@ static size_t read_at(uint8_t *room, size_t size, const char *name) {
         } \
     } while (0)
 
-/* Steps a session through all events. */
-static void go(int each) {
-    struct viz_session session = {0};
-    struct viz_area damage = {0, 0, 0, 0};
+/* Whether a pixel outside the damage is not that of the picture before. */
+static int differs_outside(struct viz_area damage) {
+    for (int32_t y = 0; y < (int32_t)h; y++)
+        for (int32_t x = 0; x < (int32_t)w; x++) {
+            size_t at = 4 * ((size_t)y * w + (size_t)x);
+            int is_in = x >= damage.x && x - damage.x < damage.w && y >= damage.y && y - damage.y < damage.h;
+            if (!is_in && memcmp(pixels + at, before + at, 4)) return 1;
+        }
+    return 0;
+}
+
+/* Steps the session through all events, and answers how many pictures differ outside their damage. */
+static int go(int each) {
+    struct viz_area damage;
     size_t at = 0, log_at = 0, frame = (size_t)w * h * 4, frames_at = 0, n = 0;
+    int elsewhere = 0;
     uint32_t answer;
     if (viz_next(&session, 17) != VIZ_CALL || viz_close(&session) != VIZ_CALL) stop("a closed session answered", 0);
     TRIED(each, answer, viz_open(w, h, files, files_len, lengths, count, &session, &cause));
@@ -88,19 +104,22 @@ static void go(int each) {
         log_at += n;
         if (schedule[at] != 18 || !memmem(line, n, "drawn ", 6)) continue;
         TRIED(each, answer, viz_picture(&session, pixels, sizeof pixels, &n, &damage));
-        if (answer != VIZ_DONE || n != frame || frames_len - frames_at < n || memcmp(frames + frames_at, pixels, n))
-            stop("the picture differs", at);
+        if (answer != VIZ_DONE || n != frame || frames_len - frames_at < n) stop("there is no picture", at);
+        if (!is_dishonest && memcmp(frames + frames_at, pixels, n)) stop("the picture differs", at);
         if (damage.x < 0 || damage.y < 0 || damage.x + damage.w > (int32_t)w || damage.y + damage.h > (int32_t)h)
             stop("the damage is not on the display", at);
-        frames_at += n;
+        elsewhere += frames_at && differs_outside(damage);
+        memcpy(before, pixels, n), frames_at += n;
     }
     if (frames_at != frames_len) stop("not all frames were seen", at);
     if (viz_close(&session) != VIZ_DONE || session.is_open) stop("it was not closed", at);
     if (viz_close(&session) != VIZ_CALL) stop("it was closed twice", at);
     if (live) stop("something was not freed", at);
+    return elsewhere;
 }
 
 int main(int words, char **word) {
+    if (words > 5 && !strcmp(word[1], "--dishonest")) is_dishonest = 1, word++, words--;
     if (words > 4) {
         w = (uint32_t)strtoul(word[1], NULL, 10), h = (uint32_t)strtoul(word[2], NULL, 10);
         events = read_at(schedule, sizeof schedule, word[3]);
@@ -115,8 +134,7 @@ int main(int words, char **word) {
     if (viz_step(w, h, schedule, events, files, files_len, lengths, count, frames, BYTES, &frames_len, text, BYTES,
                  &text_len, &cause))
         stop("viz_step has no frames", 0);
-    go(0);
-    go(1);
+    if ((go(0) + go(1) > 0) != is_dishonest) stop("a picture is not as its damage says", events);
     printf("session: %zu events, %zu bytes of log and %zu of frames are those of viz_step\n", events, text_len,
            frames_len);
     return 0;

@@ -3,7 +3,7 @@
  *     threads [THREADS [ROUNDS]]     2 threads and 20 rounds if none are given
  *
  * Each thread makes the files of a page, steps through them, judges what came of it and asks what is hit, in rooms of
- * its own. A thread has a stack of 288 KiB. */
+ * its own. A thread has as much stack as viz.h says. */
 #include "viz.h"
 #include <pthread.h>
 #include <stdio.h>
@@ -11,6 +11,7 @@
 #include <string.h>
 
 enum { W = 64, H = 32, ROUNDS = 3, FILES = 1 << 16, FRAMES = 1 << 16, LOG = 1 << 14, MOST_THREADS = 64 };
+enum { STACK = VIZ_STACK > VIZ_STACK_CHECK ? VIZ_STACK : VIZ_STACK_CHECK };
 
 /* What the calls leave. */
 struct left {
@@ -65,7 +66,7 @@ int main(int count, char **words) {
     if (threads < 1 || threads > MOST_THREADS || rounds < 1) return 2;
     call_all(&alone);
     if (memcmp(alone.answers, wanted, sizeof wanted)) return fprintf(stderr, "threads: another answer\n"), 1;
-    if (pthread_attr_init(&small) || pthread_attr_setstacksize(&small, 288 << 10)) return 1;
+    if (pthread_attr_init(&small) || pthread_attr_setstacksize(&small, STACK)) return 1;
     for (int i = 0; i < threads; i++)
         if (pthread_create(&thread[i], &small, work, NULL)) return fprintf(stderr, "threads: no thread\n"), 1;
     for (int i = 0; i < threads; i++) {
