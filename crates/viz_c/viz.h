@@ -38,9 +38,9 @@ extern "C" {
 /* The number of lengths that viz_gen tells. */
 #define VIZ_GEN_FILES 3
 
-/* So many bytes of stack have to be left when viz_check is called, or another function. This is measured, not proved, on
- * the program's commands step, hit and check, which do the same: on the deepest input (64 surfaces with 16 nested groups
- * each) the first two take 588 KiB and check 1,416, on all others 80 or less. */
+/* So many bytes of stack have to be left when another function is called, or viz_check. This is measured, not proved
+ * (examples/c/stack.c): on the deepest input (64 surfaces with 16 nested groups each) viz_step, viz_hit and viz_next take
+ * 595 KiB and viz_check 1,418; where surfaces or passes are nested in other ways no call took more than 87. */
 #define VIZ_STACK (640 * 1024)
 #define VIZ_STACK_CHECK (1536 * 1024)
 
