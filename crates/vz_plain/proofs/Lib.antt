@@ -6,3 +6,11 @@ pub mod Parted
 pub mod Rowed
 pub mod Tiles
 pub mod Mixed
+pub mod Waiting
+pub mod Unwinding
+pub mod Working
+pub mod Entering
+pub mod Beginning
+pub mod Finishing
+pub mod Showing
+pub mod Advancing

@@ -1,12 +1,12 @@
 -- What quads, passes and surfaces leave in a row, by what they leave at each point.
-use Rattle.std.proofs.Common.{◌≡◌, ℕ, zero, suc, ◌+◌, ◌-◌, ◌≤◌, ◌<◌, Bool, true, false, not, ◌&&◌, ◌||◌, if◌then◌else◌, Option, Some, None, List, [], ◌∷◌, ◌++◌, reverse, length, take, drop, get_or, refl, sym, ap, ◌∙◌, arith}
+use Rattle.std.proofs.Common.{◌≡◌, ℕ, zero, suc, ◌-◌, ◌≤◌, ◌<◌, Bool, true, false, not, ◌&&◌, ◌||◌, if◌then◌else◌, Option, Some, None, List, [], ◌∷◌, ◌++◌, reverse, length, take, drop, get_or, refl, sym, ap, ◌∙◌, arith}
 use Rattle.std.specs.Prelude.{nat_le, nat_lt}
 use Rattle.std.proofs.lemmas.Int.{ints}
 use Rattle.std.proofs.lemmas.Bool.{eqb-true}
-use Rattle.std.proofs.lemmas.List.{reverse-append, drop_more}
+use Rattle.std.proofs.lemmas.List.{reverse-append}
 use borrow.Rule.Slice.PartMut.{put_mid}
 use Rattle.vz_geom.specs.declared.Point.{Point}
-use Rattle.vz_geom.specs.Rectangle.{has, plus, corner, sized}
+use Rattle.vz_geom.specs.Rectangle.{has, sized}
 use Rattle.vz_geom.proofs.Points.{same_point}
 use Rattle.vz_ids.specs.declared.SurfaceId.{SurfaceId}
 use Rattle.vz_ids.specs.declared.SurfaceRange.{SurfaceRange}
@@ -17,15 +17,15 @@ use Rattle.vz_frame.specs.declared.blend.Blend.{Blend}
 use Rattle.vz_frame.specs.declared.blend.Blend.TheVariants.{Over, Src, DstIn}
 use Rattle.vz_frame.specs.declared.frame.DrawQuad.{DrawQuad}
 use Rattle.vz_frame.specs.declared.frame.RenderPass.{RenderPass}
-use Rattle.vz_frame.specs.declared.frame.Material.TheVariants.{Solid, Tile, Surface, Pass}
-use Rattle.vz_frame.specs.Frame.{frame_size, names_pass}
+use Rattle.vz_frame.specs.declared.frame.Material.TheVariants.{Tile, Surface, Pass}
+use Rattle.vz_frame.specs.Frame.{frame_size}
 use Rattle.vz_frame.specs.Blending.{blend, laid, is_straight}
 use Rattle.vz_rules.specs.World.{FrameData, frame_on}
 use Rattle.vz_rules.specs.Scene.{shown_frame}
-use Rattle.vz_rules.specs.Paint.{covers, local_point, tile_colour, material_painted, pass_painted, quads_painted, group_laid, groups, root_painted, content_at, content_laid, is_absent, on_path, embeds, pix, full, levels}
+use Rattle.vz_rules.specs.Paint.{covers, local_point, tile_colour, material_painted, group_laid, root_painted, content_at, content_laid, is_absent, on_path, embeds, pix, full, levels}
 use Rattle.vz_plain.specs.Rows.{right_of, IsPainted}
 use Rattle.vz_plain.specs.Painting.{Painter, embedded, ranges, passes_in, quad_here, pass_here, group_here, content_here, quad_covered, inside_here, shown_here}
-use Rattle.vz_plain.proofs.Parted.{repainted, unpainted, then_painted, part_painted, none_painted}
+use Rattle.vz_plain.proofs.Parted.{repainted, then_painted, part_painted, none_painted}
 
 -- what is chosen by a test that holds, and by one that does not
 taken : {A : Type 0} (t : Bool) (x y : A) → t ≡ true → x ≡ (elim t [ true ↦ x | false ↦ y ])
@@ -41,13 +41,6 @@ left_out false x y e = refl
 -- a point right of another, relative to the corner of a quad's rectangle
 shifted : (quad : DrawQuad) (first local : Point) (i : ℕ) → local ≡ local_point quad first → right_of local i ≡ local_point quad (right_of first i)
 shifted quad first local i is = ap (λ p. right_of p i) is ∙ same_point (omega (arith, ints)) refl
-
-pub solid_laid : (p : Painter) (earlier : List RenderPass) (quad : DrawQuad) (c : Colour) (first : Point) (old new : List Colour) → quad.material ≡ Solid c
-    → length new ≡ length old → ((i : ℕ) → i < length old → get_or new i transparent ≡ laid quad.blend c quad.opacity (get_or old i transparent))
-    → IsPainted (quad_here p earlier quad) first old new
-unfolding material_painted
-solid_laid p earlier quad c first old new is long each =
-    record { long = long; each = λ i low. rw is (each i low) }
 
 pub tile_laid : (p : Painter) (earlier : List RenderPass) (quad : DrawQuad) (id tx ty : ℕ) (first local : Point) (old new : List Colour) → quad.material ≡ Tile id tx ty → local ≡ local_point quad first
     → IsPainted (λ q d. laid quad.blend (tile_colour p.submitted id tx ty q) quad.opacity d) local old new
@@ -79,74 +72,6 @@ pub quad_painted : (p : Painter) (earlier : List RenderPass) (pass : RenderPass)
 quad_painted p earlier pass quad start from to old mid up fits exact =
     part_painted (quad_here p earlier quad) (quad_covered p earlier pass quad) (covers pass quad) start from to old mid up fits exact
     (λ q d e. taken (covers pass quad q) (quad_here p earlier quad q d) d e) (λ q d e. left_out (covers pass quad q) (quad_here p earlier quad q d) d e)
-
-pub quad_unpainted : (p : Painter) (earlier : List RenderPass) (pass : RenderPass) (quad : DrawQuad) (start : Point) (from to : ℕ) (old : List Colour) → to ≤ from
-    → ((i : ℕ) → i < length old → covers pass quad (right_of start i) ≡ (nat_le from i && nat_lt i to)) → IsPainted (quad_covered p earlier pass quad) start old old
-quad_unpainted p earlier pass quad start from to old down exact =
-    none_painted (quad_covered p earlier pass quad) (covers pass quad) start from to old down exact (λ q d e. left_out (covers pass quad q) (quad_here p earlier quad q d) d e)
-
--- Passes
-
--- no quads
-pub no_quads : (p : Painter) (earlier : List RenderPass) (pass : RenderPass) (quads : List DrawQuad) (start : Point) (old : List Colour) → quads ≡ []
-    → IsPainted (quads_painted p.submitted (passes_in p earlier) (ranges p) pass quads) start old old
-unfolding quads_painted
-no_quads p earlier pass quads start old none =
-    unpainted (quads_painted p.submitted (passes_in p earlier) (ranges p) pass quads) start old (λ q d. rw none refl)
-
--- one quad more, in front
-pub more_quads : (p : Painter) (earlier : List RenderPass) (pass : RenderPass) (quad : DrawQuad) (quads behind : List DrawQuad) (start : Point) (old now new : List Colour) → quads ≡ quad ∷ behind
-    → IsPainted (quads_painted p.submitted (passes_in p earlier) (ranges p) pass behind) start old now → IsPainted (quad_covered p earlier pass quad) start now new
-    → IsPainted (quads_painted p.submitted (passes_in p earlier) (ranges p) pass quads) start old new
-unfolding quads_painted
-more_quads p earlier pass quad quads behind start old now new more =
-    then_painted (quads_painted p.submitted (passes_in p earlier) (ranges p) pass behind) (quad_covered p earlier pass quad) (quads_painted p.submitted (passes_in p earlier) (ranges p) pass quads) start old now new
-    (λ i d. rw more refl)
-
--- the quads from one on are that one and those behind it
-pub dropped : (quads : List DrawQuad) (k : ℕ) (quad : DrawQuad) → 0 < k → k ≤ length quads → quad ≡ get_or quads (k - 1) quad → drop (k - 1) quads ≡ quad ∷ drop k quads
-dropped quads k quad some most is =
-    let next : k - 1 + 1 ≡ k = omega (arith, some) in
-    drop_more quads (k - 1) quad (omega (arith, some, most)) ∙ (λ j. sym is j ∷ drop (next j) quads)
-
--- all quads are painted
-pub all_quads : (p : Painter) (earlier : List RenderPass) (pass : RenderPass) (quads : List DrawQuad) (k : ℕ) (start : Point) (old new : List Colour) → quads ≡ pass.quads → k ≤ 0
-    → IsPainted (quads_painted p.submitted (passes_in p earlier) (ranges p) pass (drop k quads)) start old new → IsPainted (pass_here p earlier pass) start old new
-unfolding pass_painted
-all_quads p earlier pass quads zero start old new same end =
-    repainted (quads_painted p.submitted (passes_in p earlier) (ranges p) pass quads) (pass_here p earlier pass) start start old new
-    (λ i d. ap (λ l. quads_painted p.submitted (passes_in p earlier) (ranges p) pass l (right_of start i) d) same)
-all_quads p earlier pass quads (suc k) start old new same end = absurd (omega (arith, end))
-
--- Named passes
-
--- the last of these passes is laid if it has the id
-pub named_here : (p : Painter) (passes earlier : List RenderPass) (pass : RenderPass) (id : ℕ) (m : Blend) (o : ℕ) (local start : Point) (old new : List Colour) → passes ≡ earlier ++ pass ∷ [] → names_pass id pass ≡ true
-    → start ≡ plus local (corner pass.output) → IsPainted (group_here p earlier pass m o) start old new → IsPainted (passes_in p passes id m o) local old new
-unfolding groups
-named_here p passes earlier pass id m o local start old new last named at =
-    repainted (group_here p earlier pass m o) (passes_in p passes id m o) start local old new (λ i d.
-    let turned : pass ∷ reverse earlier ≡ reverse passes = sym (reverse-append earlier (pass ∷ [])) ∙ ap reverse (sym last) in
-    let point : right_of start i ≡ plus (right_of local i) (corner pass.output) = ap (λ q. right_of q i) at ∙ same_point (omega (arith, ints)) refl in
-    let here : group_here p earlier pass m o (plus (right_of local i) (corner pass.output)) d ≡ groups p.submitted (ranges p) (pass ∷ reverse earlier) id m o (right_of local i) d =
-    taken (names_pass id pass) (group_here p earlier pass m o (plus (right_of local i) (corner pass.output)) d) (groups p.submitted (ranges p) (reverse earlier) id m o (right_of local i) d) named
-    in
-    ap (λ q. group_here p earlier pass m o q d) point ∙ (here ∙ ap (λ l. groups p.submitted (ranges p) l id m o (right_of local i) d) turned))
-
-pub named_before : (p : Painter) (passes earlier : List RenderPass) (pass : RenderPass) (id : ℕ) (m : Blend) (o : ℕ) (local : Point) (old new : List Colour) → passes ≡ earlier ++ pass ∷ [] → names_pass id pass ≡ false
-    → IsPainted (passes_in p earlier id m o) local old new → IsPainted (passes_in p passes id m o) local old new
-unfolding groups
-named_before p passes earlier pass id m o local old new last other =
-    repainted (passes_in p earlier id m o) (passes_in p passes id m o) local local old new (λ i d.
-    let turned : pass ∷ reverse earlier ≡ reverse passes = sym (reverse-append earlier (pass ∷ [])) ∙ ap reverse (sym last) in
-    let here : passes_in p earlier id m o (right_of local i) d ≡ groups p.submitted (ranges p) (pass ∷ reverse earlier) id m o (right_of local i) d =
-    left_out (names_pass id pass) (group_here p earlier pass m o (plus (right_of local i) (corner pass.output)) d) (groups p.submitted (ranges p) (reverse earlier) id m o (right_of local i) d) other
-    in
-    here ∙ ap (λ l. groups p.submitted (ranges p) l id m o (right_of local i) d) turned)
-
-pub named_nowhere : (p : Painter) (passes : List RenderPass) (id : ℕ) (m : Blend) (o : ℕ) (local : Point) (old : List Colour) → passes ≡ [] → IsPainted (passes_in p passes id m o) local old old
-unfolding groups
-named_nowhere p passes id m o local old none = unpainted (passes_in p passes id m o) local old (λ q d. rw none refl)
 
 -- Groups
 
@@ -185,12 +110,14 @@ by_shown p range background m o l d None = laid m background o d
 by_shown p range background m o l d (Some i) =
     elim (on_path p.path i || is_absent range i l) [ true ↦ d | false ↦ content_laid (content_here p background i l) m o d ]
 
--- a range that shows nothing
-pub nothing_shown : (p : Painter) (range : SurfaceRange) (background : Colour) (m : Blend) (o : ℕ) (local : Point) (old new : List Colour) → shown_frame p.active range ≡ None → length new ≡ length old
-    → ((i : ℕ) → i < length old → get_or new i transparent ≡ laid m background o (get_or old i transparent)) → IsPainted (ranges p range background m o) local old new
+-- a range that shows a surface that is not on the path
+pub range_shown : (p : Painter) (range : SurfaceRange) (background : Colour) (i : FrameData) (m : Blend) (o : ℕ) (local : Point) (old new : List Colour) → shown_frame p.active range ≡ Some i → on_path p.path i ≡ false
+    → IsPainted (shown_here p range background i m o) local old new → IsPainted (ranges p range background m o) local old new
 unfolding embeds
-nothing_shown p range background m o local old new none long each =
-    record { long = long; each = λ i low. each i low ∙ sym (ap (by_shown p range background m o (right_of local i) (get_or old i transparent)) none) }
+range_shown p range background i m o local old new shown off =
+    repainted (shown_here p range background i m o) (ranges p range background m o) local local old new (λ k d. sym
+    (ap (by_shown p range background m o (right_of local k) d) shown
+    ∙ ap (λ (t : Bool). elim (t || is_absent range i (right_of local k)) [ true ↦ d | false ↦ content_laid (content_here p background i (right_of local k)) m o d ]) off))
 
 straight_laid : (m : Blend) (o : ℕ) (c d : Colour) → is_straight m o ≡ true → over c d ≡ laid m c o d
 unfolding laid blend
@@ -284,15 +211,6 @@ laid_content p i m o first old new is =
     left_out (is_straight m o) (embedded p p.path i (right_of first k) d) (laid m (embedded p p.path i (right_of first k) transparent) o d) is)
 
 -- Surfaces
-
-pub no_levels : (active : List FrameData) (levels : ℕ) (path : List SurfaceId) (i : FrameData) (start : Point) (old : List Colour) → levels ≡ 0 → IsPainted (pix levels active path i) start old old
-unfolding pix
-no_levels active zero path i start old none = unpainted (pix zero active path i) start old (λ q d. refl)
-no_levels active (suc n) path i start old none = absurd (omega (arith, none))
-
--- the painter that is inside of a surface
-abbrev inside_of : List FrameData → ℕ → List SurfaceId → FrameData → Painter
-inside_of active n path i = record { active = active; levels = n; path = i.id ∷ path; submitted = i }
 
 pub root_laid : (active : List FrameData) (levels : ℕ) (path : List SurfaceId) (i : FrameData) (id : SurfaceId) (start : Point) (earlier : List RenderPass) (root : RenderPass) (old new : List Colour)
     → (levels ≡ 0 → ⊥) → id ≡ i.id → i.frame.passes ≡ earlier ++ root ∷ []

@@ -252,7 +252,3 @@ no_clip clip count start i none low = rw none (sym (and_true (nat_le 0 i) (nat_l
 
 pub some_clip : (clip : Option Rectangle) (area : Rectangle) (t : Bool) (q : Point) → clip ≡ Some area → has area q ≡ t → in_clip clip q ≡ t
 some_clip clip area t q is e = rw is e
-
--- the first place of a span that has one is in it
-pub first_within : (s : Span) → s.from < s.to → within s s.from ≡ true
-first_within s some = and_true (nat_le s.from s.from) (nat_lt s.from s.to) (le-leb s.from s.from (omega arith)) (lt-ltb s.from s.to some)

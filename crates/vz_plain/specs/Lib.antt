@@ -4,3 +4,5 @@ pub mod Painting
 pub mod Shown
 pub mod Finding
 pub mod Rows
+pub mod Levels
+pub mod Work

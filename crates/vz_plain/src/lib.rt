@@ -3,18 +3,22 @@
 //! A row is painted in pieces of at most 256 points. For example, a quad that covers the last 28
 //! points of a piece lays its colour on these: which points it covers, and what its material
 //! names, is found once for the piece. Each function leaves at each point what the definition of
-//! the same name does. Only a whole picture allocates; the path through surfaces and the pieces
-//! of groups are on the call stack.
+//! the same name does. The path through surfaces, and the rows of passes and surfaces inside one
+//! another, are on the heap.
 #![tactic(auto)]
 
 mod hits;
 mod inks;
+mod layers;
+mod level;
+mod named;
 mod paint;
 mod path;
 mod pictures;
 mod point;
 mod span;
 mod tile;
+mod trail;
 
 pub use hits::hit_at;
 pub use pictures::picture;

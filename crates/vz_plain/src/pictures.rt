@@ -12,7 +12,7 @@ ghost use Rattle.vz_plain.specs.declared.span.TheConstants.{PIECE};
 ghost use Rattle.vz_plain.specs.Rows.{IsPainted};
 ghost use Rattle.vz_plain.specs.Shown.{colour_of};
 
-use crate::paint::full;
+use crate::layers::full;
 use crate::span::PIECE;
 use std::alloc::{AllocError, Global};
 use vz_geom::{Point, Size};
@@ -33,21 +33,29 @@ fn point_at(x: u32, y: u32) -> Point
 }
 
 /// Paints a piece of a row of the display, from a point on; it stays black if there is no root.
-fn paint(active: &ActiveFrames<'_, '_>, root: &Option<SurfaceId>, start: Point, piece: &mut [Pixel])
+fn paint(
+    alloc: Global,
+    active: &ActiveFrames<'_, '_>,
+    root: &Option<SurfaceId>,
+    start: Point,
+    piece: &mut [Pixel],
+) -> Result<(), AllocError>
     requires few { length piece.old ≤ PIECE }
     requires black { (i : ℕ) → i < length piece.old
         → slice_index_or piece.old i transparent ≡ black }
-    ensures { IsPainted (λ q d. colour_of active.now root.now q) start piece.old piece.new }
+    ensures { OnOk result
+        (IsPainted (λ q d. colour_of active.now root.now q) start piece.old piece.new) }
 {
     match root {
-        None => {}
-        Some(id) => full(active, id, start, piece),
+        None => Ok(()),
+        Some(id) => Ok(full(alloc, active, id, start, piece)?),
     }
 }
 
 /// Appends the colours of a piece of a row, from column `x` on. Condition: it is within a row of
 /// a display.
 fn piece(
+    alloc: Global,
     active: &ActiveFrames<'_, '_>,
     root: &Option<SurfaceId>,
     x: u32,
@@ -62,7 +70,7 @@ fn piece(
         ++ map (colour_of active.now root.now) (row_points count (pos x) (pos y))) }
 {
     let mut room = [Pixel::black(); PIECE];
-    paint(active, root, point_at(x, y), &mut room[..count]);
+    paint(alloc, active, root, point_at(x, y), &mut room[..count])?;
     into.extend_from_slice(&room[..count])?;
     Ok(())
 }
@@ -80,6 +88,7 @@ fn next_count(left: u32) -> usize
 
 /// Appends the colours of a row, from column 0. Condition: it is a row of a display.
 pub(crate) fn row(
+    alloc: Global,
     active: &ActiveFrames<'_, '_>,
     root: &Option<SurfaceId>,
     w: u32,
@@ -94,7 +103,7 @@ pub(crate) fn row(
     let mut x = 0;
     while x < w {
         let count = next_count(w - x);
-        piece(active, root, x, y, count, into)?;
+        piece(alloc, active, root, x, y, count, into)?;
         x += count as u32;
     }
     Ok(())
@@ -115,7 +124,7 @@ fn rows(
     let h = size.h.unsigned_abs();
     let mut colours = Vec::new(alloc);
     for y in 0..h {
-        row(active, root, w, y, &mut colours)?;
+        row(alloc, active, root, w, y, &mut colours)?;
     }
     Ok(colours)
 }

@@ -16,5 +16,5 @@ pub returns : goal.returns
 returns c =
     let long = clear_long c.black-room.result 256 c.args.count c.requires.few in
     c.in_ok-extend_from_slice.ensures.items
-    ∙ ap (λ (s : List Colour). c.args.into.now.items ++ s) (first_part c.args.count _ c.paint.new.piece (c.paint.ensures.long ∙ long)
-    ∙ piece_is (colour_of c.args.active.now c.args.root.now) c.args.count c.args.x c.args.y c.point_at.result _ c.paint.new.piece c.point_at.ensures long c.paint.ensures)
+    ∙ ap (λ (s : List Colour). c.args.into.now.items ++ s) (first_part c.args.count _ c.paint.new.piece (c.in_ok-paint.ensures.long ∙ long)
+    ∙ piece_is (colour_of c.args.active.now c.args.root.now) c.args.count c.args.x c.args.y c.point_at.result _ c.paint.new.piece c.point_at.ensures long c.in_ok-paint.ensures)
