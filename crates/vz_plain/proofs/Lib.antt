@@ -1,6 +1,7 @@
 pub mod Pointing
 pub mod Filling
 pub mod Searching
+pub mod Lessening
 pub mod Spans
 pub mod Parted
 pub mod Rowed

@@ -1,8 +1,9 @@
-pub mod Paths
 pub mod Points
 pub mod Painting
 pub mod Shown
 pub mod Finding
+pub mod Remaining
+pub mod Answered
 pub mod Rows
 pub mod Levels
 pub mod Work
