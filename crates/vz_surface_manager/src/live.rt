@@ -73,7 +73,7 @@ impl LiveSurfaces {
         ensures released { IfOk result (λ s. NoneReleased s.lent) }
     {
         Ok(LiveSurfaces {
-            store: Store::new(alloc),
+            store: Store::new(alloc)?,
             lending: Lenders::new(alloc, clients)?,
             feeding: PendingFeedback::new(alloc),
             references: References::new(alloc),

@@ -122,7 +122,7 @@ no_owner = record { accepted = 0; created = 0; last = None; marked_to = 0 }
 
 -- the counts of the client with this number
 abbrev pub owner_at : Owners → ℕ → Owner
-owner_at o c = get_or o.owners (c - 1) no_owner
+owner_at o c = get_or o.owners.value (c - 1) no_owner
 
 -- the client's number is one that plans can have
 abbrev pub HasNumber : ℕ → Type 0

@@ -1,7 +1,9 @@
 //! The counts that are kept for each client.
-ghost use Rattle.std.specs.Prelude.{◌≡◌, ◌≤◌, ◌<◌, ◌+◌, ℕ, Some, None, if◌then◌else◌, ◌==◌};
+ghost use Rattle.std.specs.Prelude.{◌≡◌, ◌≤◌, ◌<◌, ◌+◌, ◌-◌, ℕ, Some, None, get_or, if◌then◌else◌, ◌==◌, IfOk};
 ghost use Rattle.vz_surfaces.specs.Memory.{owner_at, no_owner, counting, is_named_last, marked_up, MarksUpTo};
 
+use std::alloc::Global;
+use vz_base::Memory;
 use vz_geom::Size;
 use vz_ids::LocalSurfaceId;
 
@@ -59,19 +61,21 @@ impl Owner {
     }
 }
 
-/// The counts of the clients 1 to 16.
+/// The counts of the clients 1 to 16. They lie on the heap, so that a store is small where it is
+/// moved.
 #[derive(Drop)]
 pub(crate) struct Owners {
-    owners: [Owner; 16],
+    owners: Box<[Owner; 16]>,
     /// No client with a number above this one has marked surfaces.
     marking: u32,
 }
 
 impl Owners {
-    /// The counts before any submission is accepted.
-    pub(crate) fn new() -> Owners
-        ensures owners { (q : ℕ) → owner_at result q ≡ no_owner }
-        ensures marking { MarksUpTo result }
+    /// The counts before any submission is accepted. The only error is `Memory`, if an allocation
+    /// fails.
+    pub(crate) fn new(alloc: Global) -> Result<Owners, Memory>
+        ensures owners { IfOk result (λ o. (q : ℕ) → owner_at o q ≡ no_owner) }
+        ensures marking { IfOk result MarksUpTo }
     {
         let owner = Owner {
             accepted: 0,
@@ -79,10 +83,8 @@ impl Owners {
             last: None,
             marked_to: 0,
         };
-        Owners {
-            owners: [owner; 16],
-            marking: 0,
-        }
+        let owners = Box::new(alloc, [owner; 16])?;
+        Ok(Owners { owners, marking: 0 })
     }
 
     /// The number above which no client has marked surfaces.
@@ -110,8 +112,18 @@ impl Owners {
         ensures marking { MarksUpTo self.old → MarksUpTo self.new }
     {
         self.marking = marking_with(self.marking, c, owner.marked_to);
-        self.owners[(c - 1) as usize] = owner;
+        replace(&mut self.owners, c, owner);
     }
+}
+
+/// Replaces the counts of a client. Condition: its number is 1 to 16.
+fn replace(owners: &mut [Owner; 16], c: u32, owner: Owner)
+    requires least { 1 ≤ c }
+    requires most { c ≤ 16 }
+    ensures { (q : ℕ) → 1 ≤ q → get_or owners.new (q - 1) no_owner
+        ≡ (if q == c then owner else get_or owners.old (q - 1) no_owner) }
+{
+    owners[(c - 1) as usize] = owner;
 }
 
 /// The number above which no client has marked surfaces, once those of client `c` are marked up to

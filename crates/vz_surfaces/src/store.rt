@@ -26,6 +26,7 @@ use crate::told::{Acceptance, Told, note};
 use crate::waits::Waits;
 use std::alloc::Global;
 use std::marker::Model;
+use vz_base::Memory;
 use vz_frame::{BoxedFrame, Room, ShortList};
 use vz_geom::Size;
 use vz_ghost::GhostList;
@@ -62,19 +63,20 @@ impl Model for Store {
 }
 
 impl Store {
-    /// Creates an empty store. It allocates nothing.
-    pub fn new(alloc: Global) -> Store
-        ensures { result ≡ nothing_stored }
+    /// Creates an empty store. The only error is `Memory`, if an allocation fails.
+    pub fn new(alloc: Global) -> Result<Store, Memory>
+        ensures { IfOk result (λ s. s ≡ nothing_stored) }
     {
-        Store {
+        let owners = Owners::new(alloc)?;
+        Ok(Store {
             alloc,
             table: Table::new(alloc),
             waits: Waits::new(alloc),
-            owners: Owners::new(),
+            owners,
             groups: Groups::new(alloc),
             standing: Standing::new(alloc),
             told: GhostList::new(),
-        }
+        })
     }
 
     /// The local id and the size of the last surface that a client created, or None if it created
