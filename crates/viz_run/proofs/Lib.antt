@@ -4,6 +4,7 @@ mod Flaws
 mod Accepts
 mod Schedules
 mod Fitting
+mod Gating
 mod Stopping
 mod Admitting
 mod Logs_read

@@ -1,6 +1,7 @@
 //! Runs a plan with threads, and writes the frames and the log.
 ghost use Rattle.std.specs.Prelude.{◌≡◌, ◌≢◌, ◌+◌, Some, [], IsTrue};
 ghost use Rattle.std.specs.Prelude.{IfOk, OnOk, OnErr};
+ghost use Rattle.vz_player.specs.Gated.{AreGated};
 ghost use Rattle.vz_player.specs.Written.{WritesAll, WritesSome};
 ghost use Rattle.vz_outside.specs.Shelved.{Writing, KeepsOthers, Appends, AppendsFront, Behaves};
 ghost use Rattle.vz_rules.specs.Command.{fits_command, buffer_count};
@@ -64,6 +65,7 @@ where
         (outputs_for words.now (M.state machine).plan history.new)
         (F.shelved shelf.old) (F.shelved shelf.new)) }
     ensures behaves { Behaves (F.shelved shelf.old) (F.shelved shelf.new) result }
+    ensures gated { AreGated (G.told gate.now) history.new }
 {
     let outputs = create_outputs(shelf, words.frames, words.log)?;
     let rest = show_run(
@@ -120,6 +122,7 @@ where
     ensures others { KeepsOthers ((F.shelved shelf.old).name slot)
         (F.shelved shelf.old) (F.shelved shelf.new) }
     ensures behaves { Behaves (F.shelved shelf.old) (F.shelved shelf.new) result }
+    ensures gated { AreGated (G.told gate.now) history.new }
 {
     let course = Course {
         rounds: words.ticks,

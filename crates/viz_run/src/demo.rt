@@ -3,6 +3,7 @@ ghost use Rattle.std.specs.Prelude.{◌≡◌, ◌+◌, ◌≤◌, ℕ, [], fals
 ghost use Rattle.std.specs.Prelude.{IfOk, OnOk, OnErr};
 ghost use Rattle.vz_base.specs.declared.limits.TheConstants.{DEFAULT_BUFFERS, MOST_ROUNDS};
 ghost use Rattle.vz_display.specs.Displayed.{upto_most};
+ghost use Rattle.vz_player.specs.Gated.{IsGated, AreGated};
 ghost use Rattle.vz_player.specs.Played.{painted_by};
 ghost use Rattle.vz_rules.specs.Command.{Demo};
 ghost use Rattle.vz_rules.specs.Frames.{painted};
@@ -54,6 +55,7 @@ pub fn demo<G: Gate, L: Ledger, R: Threads + Sync>(
         (steps.new ≡ steps.old + painted (demo_plan rounds) history.new DEFAULT_BUFFERS) }
     ensures front { OnErr result ((n : ℕ)
         × IsHistory (demo_plan rounds) (take n (demo_events rounds)) history.new) }
+    ensures gated { AreGated (G.told gate.now) history.new }
 {
     let plan = demo_plan(alloc, rounds)?;
     let events = demo_events(alloc, rounds)?;
@@ -90,6 +92,7 @@ where
         ≡ steps.old + painted (M.state machine).plan history.new DEFAULT_BUFFERS) }
     ensures front { OnErr result ((n : ℕ)
         × IsHistory (M.state machine).plan (take n events.now) history.new) }
+    ensures gated { AreGated (G.told gate.now) history.new }
 {
     let count = events.len();
     let mut player = Player::new(alloc, machine, size, DEFAULT_BUFFERS as u32, count);
@@ -126,6 +129,7 @@ where
         (steps.new + painted_by player.old ≡ steps.old + painted_by player.new) }
     ensures front { OnErr result ((n : ℕ)
         × HasTaken (take n events.now) player.old player.new) }
+    ensures gated { IsGated (G.told gate.now) player.old.history player.new.history }
 {
     for event in events {
         player.turn(rt, alloc, gate, *event, steps)?;

@@ -4,6 +4,7 @@ ghost use Rattle.std.specs.Prelude.{◌≡◌, ◌≤◌, ℕ, All, [], length, 
 ghost use Rattle.std.specs.Prelude.{IfOk, OnOk, OnErr};
 ghost use Rattle.vz_base.specs.declared.limits.TheConstants.{MOST_FILES};
 ghost use Rattle.vz_machine.specs.Stepping.{IsOnDisplay};
+ghost use Rattle.vz_player.specs.Gated.{IsGated, AreGated};
 ghost use Rattle.vz_rules.specs.Command.{fits_command};
 ghost use Rattle.vz_rules.specs.Step.{NamesClient};
 ghost use Rattle.vz_rules.specs.Whole.{hit_last};
@@ -43,8 +44,9 @@ pub fn hit<F: Shelf, G: Gate, R: Threads + AllocGlobal + Sync>(
 ) -> Result<End, Stop>
     requires fits { IsTrue (fits_command (command_of words.now)) }
     requires empty { history.old ≡ [] }
-    ensures { (steps : ℕ) → AnswersFor (command_of words.now) history.new
+    ensures answers { (steps : ℕ) → AnswersFor (command_of words.now) history.new
         (site (F.shelved shelf.old) steps) (site (F.shelved shelf.new) steps) result }
+    ensures gated { AreGated (G.told gate.now) history.new }
 {
     let size = size_of(words.width, words.height);
     let Given { plan, events } = admit(rt, shelf, size, words.schedule, words.files)?;
@@ -79,6 +81,7 @@ where
     ensures history { OnOk result (IsHistory (M.state machine).plan events.now history.new) }
     ensures front { OnErr result ((n : ℕ)
         × IsHistory (M.state machine).plan (take n events.now) history.new) }
+    ensures gated { AreGated (G.told gate.now) history.new }
 {
     let mut tester = HitTester::new(alloc, machine, point);
     let taken = take_all(alloc, &mut tester, events, gate);
@@ -102,6 +105,7 @@ where
     ensures taken { OnOk result (HasTested events.now tester.old tester.new) }
     ensures front { OnErr result ((n : ℕ)
         × HasTested (take n events.now) tester.old tester.new) }
+    ensures gated { IsGated (G.told gate.now) tester.old.history tester.new.history }
 {
     for event in events {
         tester.turn(alloc, gate, *event)?;

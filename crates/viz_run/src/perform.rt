@@ -1,5 +1,6 @@
 //! Carries out the command that the words ask for.
 ghost use Rattle.std.specs.Prelude.{◌≡◌, []};
+ghost use Rattle.vz_player.specs.Gated.{AreGated};
 ghost use Rattle.vz_words.specs.Words.{texts};
 ghost use Rattle.viz_run.specs.Answered.{AnswersAll};
 ghost use Rattle.viz_run.specs.Site.{site};
@@ -38,8 +39,9 @@ pub fn perform<F: Shelf + Send, G: Gate + Sync, L: Ledger, R>(
 where
     R: Threads + Wait + AllocGlobal + Sync,
     requires { history.old ≡ [] }
-    ensures { AnswersAll (texts words.now) history.new
+    ensures answers { AnswersAll (texts words.now) history.new
         (site (F.shelved shelf.old) steps.old) (site (F.shelved shelf.new) steps.new) result }
+    ensures gated { AreGated (G.told gate.now) history.new }
 {
     match command(words) {
         Some(Command::Run(words)) => run(rt, &words, shelf, gate, steps, history),

@@ -1,6 +1,7 @@
 //! Gives the events of a schedule to a machine, and writes the frames and the log.
 ghost use Rattle.std.specs.Prelude.{◌≡◌, ◌≢◌, ◌+◌, ℕ, All, Some, [], take, OnOk, OnErr, IfOk};
 ghost use Rattle.vz_base.specs.declared.limits.TheConstants.{DEFAULT_BUFFERS};
+ghost use Rattle.vz_player.specs.Gated.{AreGated};
 ghost use Rattle.vz_player.specs.Written.{WritesAll, WritesSome};
 ghost use Rattle.vz_outside.specs.Shelved.{Writing, KeepsOthers, Appends, AppendsFront, Behaves};
 ghost use Rattle.vz_rules.specs.Frames.{painted};
@@ -64,6 +65,7 @@ where
         (outputs_for words.now (M.state machine).plan history.new)
         (F.shelved shelf.old) (F.shelved shelf.new)) }
     ensures behaves { Behaves (F.shelved shelf.old) (F.shelved shelf.new) result }
+    ensures gated { AreGated (G.told gate.now) history.new }
 {
     let outputs = create_outputs(shelf, words.frames, words.log)?;
     let rest = show(
@@ -119,6 +121,7 @@ where
     ensures others { KeepsOthers ((F.shelved shelf.old).name slot)
         (F.shelved shelf.old) (F.shelved shelf.new) }
     ensures behaves { Behaves (F.shelved shelf.old) (F.shelved shelf.new) result }
+    ensures gated { AreGated (G.told gate.now) history.new }
 {
     let count = events.len();
     let mut player = Player::new(alloc, machine, size, DEFAULT_BUFFERS as u32, count);

@@ -1,6 +1,7 @@
 //! The call that runs the whole program.
 ghost use Rattle.std.specs.Prelude.{◌≡◌, ◌≢◌, ◌≤◌, ◌⊎◌, IsTrue};
 ghost use Rattle.vz_outside.specs.Faults.{CountRose};
+ghost use Rattle.vz_player.specs.Gated.{AreGated};
 ghost use Rattle.vz_words.specs.Words.{texts};
 ghost use Rattle.viz_run.specs.declared.refused.Refused.{Refused as Refusal};
 ghost use Rattle.vz_rules.specs.Command.{Command as Asked};
@@ -104,6 +105,10 @@ where
     ensures others { KeepsOthers (texts words.now) (F.shelved shelf.old) (F.shelved shelf.new) }
     ensures call { IsCalled (outside (F.shelved shelf.old) (O.sunk out.old) steps.old)
         (outside (F.shelved shelf.new) (O.sunk out.new) steps.new) }
+
+    // With any status: the gate was told before and after the step of each entry of the history:
+    // of the n-th entry of an actor, which is the display or a client, as its step n.
+    ensures gated { AreGated (G.told gate.now) result.history }
 
     // Faultless devices stay faultless and count no fault, if the files that are to be read
     // exist.

@@ -1,5 +1,6 @@
 //! The command `run`: a thread for each client, beside the display.
 ghost use Rattle.std.specs.Prelude.{◌≡◌, [], IsTrue};
+ghost use Rattle.vz_player.specs.Gated.{AreGated};
 ghost use Rattle.vz_rules.specs.Command.{fits_command};
 ghost use Rattle.viz_run.specs.Answered.{AnswersFor};
 ghost use Rattle.viz_run.specs.Ran.{command_of};
@@ -36,8 +37,9 @@ where
     R: Threads + Wait + AllocGlobal + Sync,
     requires fits { IsTrue (fits_command (command_of words.now)) }
     requires empty { history.old ≡ [] }
-    ensures { AnswersFor (command_of words.now) history.new
+    ensures answers { AnswersFor (command_of words.now) history.new
         (site (F.shelved shelf.old) steps.old) (site (F.shelved shelf.new) steps.new) result }
+    ensures gated { AreGated (G.told gate.now) history.new }
 {
     let size = size_of(words.width, words.height);
     let plan = read_plan(rt, shelf, size, words.files)?;

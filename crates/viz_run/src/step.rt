@@ -1,5 +1,6 @@
 //! The command `step`: takes the events of a schedule one after the other.
 ghost use Rattle.std.specs.Prelude.{◌≡◌, [], IsTrue};
+ghost use Rattle.vz_player.specs.Gated.{AreGated};
 ghost use Rattle.vz_rules.specs.Command.{fits_command};
 ghost use Rattle.viz_run.specs.Answered.{AnswersFor};
 ghost use Rattle.viz_run.specs.Site.{site};
@@ -31,8 +32,9 @@ pub fn step<F: Shelf, G: Gate, L: Ledger, R: Threads + AllocGlobal + Sync>(
 ) -> Result<End, Stop>
     requires fits { IsTrue (fits_command (command_of words.now)) }
     requires empty { history.old ≡ [] }
-    ensures { AnswersFor (command_of words.now) history.new
+    ensures answers { AnswersFor (command_of words.now) history.new
         (site (F.shelved shelf.old) steps.old) (site (F.shelved shelf.new) steps.new) result }
+    ensures gated { AreGated (G.told gate.now) history.new }
 {
     let size = size_of(words.width, words.height);
     let Given { plan, events } = admit(rt, shelf, size, words.schedule, words.files)?;

@@ -1,5 +1,6 @@
 //! The command `turns`: clients and the display call one hub on threads, without painting.
 ghost use Rattle.std.specs.Prelude.{◌≡◌, ℕ, [], IsTrue};
+ghost use Rattle.vz_player.specs.Gated.{AreGated};
 ghost use Rattle.vz_rules.specs.Command.{fits_command};
 ghost use Rattle.viz_run.specs.Answered.{AnswersFor};
 ghost use Rattle.viz_run.specs.Site.{site};
@@ -33,8 +34,9 @@ where
     R: Threads + Wait + AllocGlobal + Sync,
     requires fits { IsTrue (fits_command (command_of words.now)) }
     requires empty { history.old ≡ [] }
-    ensures { (steps : ℕ) → AnswersFor (command_of words.now) history.new
+    ensures answers { (steps : ℕ) → AnswersFor (command_of words.now) history.new
         (site (F.shelved shelf.old) steps) (site (F.shelved shelf.new) steps) result }
+    ensures gated { AreGated (G.told gate.now) history.new }
 {
     let size = size_of(words.width, words.height);
     let plan = read_plan(rt, shelf, size, words.files)?;

@@ -1,9 +1,9 @@
 -- What a closed hub's history has.
 use Rattle.std.specs.Prelude.{slice_index, slice_get}
 use Rattle.std.proofs.Common.{◌≡◌, ℕ, zero, suc, ◌+◌, ◌-◌, ◌<◌, ◌≤◌, false, ◌==◌, ◌⊎◌, inl, inr, Option, Some, List, [], ◌∷◌, ◌++◌, map, length, refl, ap, sym, ◌∙◌, subst, arith, ne_eqb}
-use Rattle.std.proofs.{lemmas.List.length-map, lemmas.List.length-replicate, lemmas.Bool.Decides.nat_tests}
+use Rattle.std.proofs.{lemmas.List.length-map, lemmas.List.length-replicate}
 use Rattle.atomic_table.specs.Seated.{TableId}
-use Rattle.vz_loans.specs.{Rule.places, Rule.weight, Tokens.Caller, Tokens.numbered, Tokens.unused_from, Tokens.IsClosedBy}
+use Rattle.vz_loans.specs.{Rule.Log, Rule.places, Rule.weight, Tokens.Caller, Tokens.numbered, Tokens.unused_from, Tokens.IsClosedBy}
 use Rattle.vz_loans.proofs.Closing.{Each, each_of, each_init, each_rest, each_on}
 use Rattle.vz_frame.specs.declared.message.ClientFile.{ClientFile}
 use Rattle.vz_rules.specs.{Plan.Plan, Plan.message_counts, World.file_of, Course.displayed, Whole.mine as mine_in, declared.entry.Entry.Entry}
@@ -11,16 +11,24 @@ use Rattle.vz_rules.specs.Step.{Legal}
 use Rattle.vz_rules.specs.declared.entry.Event.TheVariants as event
 use Rattle.vz_turn.specs.{Calls.IsClosed, Own.own_entries, Own.made_with}
 use Rattle.vz_turn.proofs.Owned.{own_count, own_closed}
-use Rattle.vz_callers.specs.{Callers.events_in, Callers.events_of, Callers.calls_of, Callers.IsClient, Turns.rounds, Turns.IsTurns}
+use Rattle.vz_outside.specs.Told.{Call, AreTold}
+use Rattle.vz_outside.proofs.Passing.{told_none}
+use Rattle.vz_callers.specs.{Callers.events_in, Callers.events_of, Callers.calls_of, Callers.IsClient, Callers.IsEventOf, Callers.HasTold, Turns.rounds, Turns.IsTurns, Turns.AreEntriesTold}
 use Rattle.vz_callers.specs.Crews.{messages_of, numbers_of, HasCalledAll}
-use Rattle.vz_callers.proofs.Sorting.{IsEventOf, IsEntryOf, IsSorted, sorted_by, each_event, rounds_display, calls_client, displayed_own, mine_own}
+use Rattle.vz_callers.proofs.Sorting.{IsEntryOf, IsSorted, sorted_by, each_event, displayed_own, mine_own}
+use Rattle.vz_callers.proofs.Tells.{told_by}
 use Rattle.vz_rules.proofs.Members.{at_within as inside}
 
 -- Lists
 
-each_both : {A : Type 0} (P Q : A → Type 0) (xs : List A) → Each P xs → Each Q xs → Each (λ x. P x × Q x) xs
-each_both P Q [] h k = tt
-each_both P Q (x ∷ xs) h k = ((h.0, k.0), each_both P Q xs h.1 k.1)
+-- a caller whose entries in a log are those that it made, and of which this holds
+pub record IsOwner (log : Log Entry) (P : Caller Plan Entry → Type 0) (t : Caller Plan Entry) : Type 0 where
+  pub own : own_entries t.number log ≡ made_with t
+  pub holds : P t
+
+owners : (q : Plan) (log : Log Entry) (P : Caller Plan Entry → Type 0) (ts : List (Caller Plan Entry)) → Each (IsClosedBy q log) ts → Each P ts → Each (IsOwner log P) ts
+owners q log P [] h k = tt
+owners q log P (t ∷ ts) h k = (record { own = own_closed q log t h.0; holds = k.0 }, owners q log P ts h.1 k.1)
 
 empty_is : {A : Type 0} (xs : List A) → length xs ≡ 0 → xs ≡ []
 empty_is [] none = refl
@@ -67,13 +75,6 @@ found P (t ∷ ts) id o k (suc count) c is from upto each =
 
 -- The history
 
--- an entry's caller by its events
-of_client : (n : ℕ) (es : List Entry) (m : ℕ) → events_in es ≡ calls_of (suc n) m → Each (IsEntryOf (suc n)) es
-of_client n es m is = each_event (IsEventOf (suc n)) es (subst (Each (IsEventOf (suc n))) (sym is) (calls_client n m))
-
-of_display : (es : List Entry) (ticks : ℕ) → events_in es ≡ rounds ticks → Each (IsEntryOf 0) es
-of_display es ticks is = each_event (IsEventOf 0) es (subst (Each (IsEventOf 0)) (sym is) (rounds_display ticks))
-
 each_put : (P : Caller Plan Entry → Type 0) (ts : List (Caller Plan Entry)) (t : Caller Plan Entry) → Each P ts → P t → Each P (ts ++ t ∷ [])
 each_put P [] t h k = (k, tt)
 each_put P (u ∷ ts) t h k = (h.0, each_put P ts t h.1 k)
@@ -81,9 +82,8 @@ each_put P (u ∷ ts) t h k = (h.0, each_put P ts t h.1 k)
 abbrev IsOther : ℕ → Caller Plan Entry → Type 0
 IsOther c t = (t.number == c) ≡ false
 
-module _ (id : TableId) (p q : Plan) (messages : List ℕ) (ticks : ℕ) (h : List Entry) (clients : List (Caller Plan Entry)) (display : Caller Plan Entry)
-    (counts : messages ≡ message_counts p) (closed : IsClosed q h (clients ++ display ∷ [])) (zeroth : display.number ≡ 0) (played : events_of display ≡ rounds ticks)
-    (ours : Each (IsClient id p) clients) (called : Each (HasCalledAll messages) clients)
+module _ (told : Call → Type 0) (id : TableId) (p q : Plan) (h : List Entry) (clients : List (Caller Plan Entry)) (display : Caller Plan Entry)
+    (closed : IsClosed q h (clients ++ display ∷ [])) (zeroth : display.number ≡ 0) (ours : Each (IsClient id p) clients) (gated : Each (HasTold told) clients) (shown : HasTold told display)
     (numbers : numbers_of clients ≡ numbers_of (unused_from {P = Plan} {E = Entry} id (Some p) 1 (length p.files))) where
   each_closed : Each (IsClosedBy q closed.log) (clients ++ display ∷ [])
   each_closed = each_of (IsClosedBy q closed.log) (clients ++ display ∷ []) closed.closed
@@ -92,12 +92,11 @@ module _ (id : TableId) (p q : Plan) (messages : List ℕ) (ticks : ℕ) (h : Li
   display_own : own_entries 0 closed.log ≡ made_with display
   display_own = ap (λ (n : ℕ). own_entries n closed.log) (sym zeroth) ∙ own_closed q closed.log display (each_rest (IsClosedBy q closed.log) clients (display ∷ []) each_closed).0
 
-  -- a client's entries
-  client_events : (c : ℕ) → 1 ≤ c → c ≤ length p.files → events_in (own_entries c closed.log) ≡ calls_of c (messages_of messages c)
-  client_events c from upto =
-      let one = found (λ t. IsClosedBy q closed.log t × HasCalledAll messages t) clients id (Some p) 1 (length p.files) c numbers from (omega (arith, upto))
-      (each_both (IsClosedBy q closed.log) (HasCalledAll messages) clients (each_init (IsClosedBy q closed.log) clients (display ∷ []) each_closed) called) in
-      subst (λ (n : ℕ). events_in (own_entries n closed.log) ≡ calls_of n (messages_of messages n)) one.1 (ap events_in (own_closed q closed.log one.0 one.2.0) ∙ one.2.1)
+  -- a client's caller, of which this holds
+  client_own : (P : Caller Plan Entry → Type 0) (c : ℕ) → 1 ≤ c → c ≤ length p.files → Each P clients → (t : Caller Plan Entry) × (t.number ≡ c) × IsOwner closed.log P t
+  client_own P c from upto each =
+      found (IsOwner closed.log P) clients id (Some p) 1 (length p.files) c numbers from (omega (arith, upto))
+      (owners q closed.log P clients (each_init (IsClosedBy q closed.log) clients (display ∷ []) each_closed) each)
 
   -- nobody else's
   others_all : (c : ℕ) → length p.files < c → Each (IsOther c) (clients ++ display ∷ [])
@@ -111,29 +110,70 @@ module _ (id : TableId) (p q : Plan) (messages : List ℕ) (ticks : ℕ) (h : Li
       let none : places c closed.log ≡ [] = closed.others c (none_numbered c (clients ++ display ∷ []) (others_all c beyond)) in
       empty_is (own_entries c closed.log) (own_count (record display { number = c; seen = closed.log }) ∙ ap length none)
 
+  -- each entry is of its caller's event
+  owned : (t : Caller Plan Entry) (n : ℕ) → own_entries n closed.log ≡ made_with t → t.number ≡ n → HasTold told t → Each (IsEntryOf n) (own_entries n closed.log)
+  owned t n is same k =
+      subst (Each (IsEntryOf n)) (sym is)
+      (each_event (IsEventOf n) (made_with t) (subst (λ (m : ℕ). Each (IsEventOf m) (events_of t)) same (each_of (IsEventOf t.number) (events_of t) k.own)))
+
+  client_owned : (c : ℕ) → 1 ≤ c → c ≤ length p.files → Each (IsEntryOf c) (own_entries c closed.log)
+  client_owned c from upto =
+      let one = client_own (HasTold told) c from upto gated in
+      owned one.0 c (ap (λ (n : ℕ). own_entries n closed.log) (sym one.1) ∙ one.2.own) one.1 one.2.holds
+
   each_entry : (n : ℕ) → Each (IsEntryOf n) (own_entries n closed.log)
-  each_entry zero = subst (Each (IsEntryOf 0)) (sym display_own) (of_display (made_with display) ticks played)
-  each_entry (suc n) = grind (arith, nat_tests, order (suc n) (length p.files), of_client n (own_entries (suc n) closed.log) (messages_of messages (suc n)), client_events (suc n), no_stranger (suc n))
+  each_entry zero = owned display 0 display_own zeroth shown
+  each_entry (suc n) = elim (order (suc n) (length p.files)) [
+    | inl upto ↦ client_owned (suc n) (omega arith) upto
+    | inr beyond ↦ subst (Each (IsEntryOf (suc n))) (sym (no_stranger (suc n) beyond)) tt
+  ]
 
   sorted : IsSorted closed.log
   sorted = sorted_by closed.log each_entry
 
-  display_is : events_in (displayed h) ≡ rounds ticks
-  display_is = ap (λ (es : List Entry). events_in (displayed es)) (sym closed.entries) ∙ ap events_in (displayed_own closed.log sorted ∙ display_own) ∙ played
+  displayed_is : displayed h ≡ made_with display
+  displayed_is = ap displayed (sym closed.entries) ∙ (displayed_own closed.log sorted ∙ display_own)
 
-  client_is : (c : ℕ) (file : ClientFile) → 1 ≤ c → file_of p c ≡ Some file → length (mine_in h c) ≡ length file.messages
-  client_is c file from at =
-      let upto : c ≤ length p.files = let i = inside p.files (c - 1) file at in omega (arith, from, i) in
-      ap (λ (es : List Entry). length (mine_in es c)) (sym closed.entries)
-      ∙ ap length (mine_own c closed.log from sorted)
-      ∙ sym (length-map (own_entries c closed.log) (λ (e : Entry). e.event))
-      ∙ ap length (client_events c from upto)
-      ∙ length-replicate (messages_of messages c) (event.Client c)
-      ∙ ap (λ (l : List ℕ). slice_index l (c - 1)) counts
-      ∙ counted_at p.files (c - 1) file at
+  mine_is : (c : ℕ) → 1 ≤ c → mine_in h c ≡ own_entries c closed.log
+  mine_is c from = ap (λ (es : List Entry). mine_in es c) (sym closed.entries) ∙ mine_own c closed.log from sorted
 
-  pub turns : q ≡ p → Legal q h → IsTurns p ticks h
-  turns same legal = record { legal = subst (λ (r : Plan). Legal r h) same legal; display = display_is; clients = client_is }
+  -- the gate was told of each entry
+  entries_told : (t : Caller Plan Entry) (n : ℕ) (es : List Entry) → es ≡ made_with t → t.number ≡ n → HasTold told t → AreTold told n 0 (length es)
+  entries_told t n es is same k =
+      told_by told t.number n (length (events_of t)) (length es) same (length-map (made_with t) (λ (e : Entry). e.event) ∙ ap length (sym is)) k.each
+
+  client_told : (c : ℕ) → 1 ≤ c → c ≤ length p.files → AreTold told c 0 (length (mine_in h c))
+  client_told c from upto =
+      let one = client_own (HasTold told) c from upto gated in
+      entries_told one.0 c (mine_in h c) (mine_is c from ∙ (ap (λ (n : ℕ). own_entries n closed.log) (sym one.1) ∙ one.2.own)) one.1 one.2.holds
+
+  stranger_told : (c : ℕ) → 1 ≤ c → length p.files < c → AreTold told c 0 (length (mine_in h c))
+  stranger_told c from beyond = told_none told c 0 (length (mine_in h c)) (let none = ap length (mine_is c from ∙ no_stranger c beyond) in omega (arith, none))
+
+  pub all_told : AreEntriesTold told h
+  all_told = record {
+    display = entries_told display 0 (displayed h) displayed_is zeroth shown;
+    clients = λ c from. elim (order c (length p.files)) [ inl upto ↦ client_told c from upto | inr beyond ↦ stranger_told c from beyond ];
+  }
+
+  module _ (messages : List ℕ) (ticks : ℕ) (counts : messages ≡ message_counts p) (played : events_of display ≡ rounds ticks) (called : Each (HasCalledAll messages) clients) where
+    client_events : (c : ℕ) → 1 ≤ c → c ≤ length p.files → events_in (own_entries c closed.log) ≡ calls_of c (messages_of messages c)
+    client_events c from upto =
+        let one = client_own (HasCalledAll messages) c from upto called in
+        subst (λ (n : ℕ). events_in (own_entries n closed.log) ≡ calls_of n (messages_of messages n)) one.1 (ap events_in one.2.own ∙ one.2.holds)
+
+    client_is : (c : ℕ) (file : ClientFile) → 1 ≤ c → file_of p c ≡ Some file → length (mine_in h c) ≡ length file.messages
+    client_is c file from at =
+        let upto : c ≤ length p.files = let i = inside p.files (c - 1) file at in omega (arith, from, i) in
+        ap length (mine_is c from)
+        ∙ sym (length-map (own_entries c closed.log) (λ (e : Entry). e.event))
+        ∙ ap length (client_events c from upto)
+        ∙ length-replicate (messages_of messages c) (event.Client c)
+        ∙ ap (λ (l : List ℕ). slice_index l (c - 1)) counts
+        ∙ counted_at p.files (c - 1) file at
+
+    pub turns : q ≡ p → Legal q h → IsTurns p ticks h
+    turns same legal = record { legal = subst (λ (r : Plan). Legal r h) same legal; display = ap events_in displayed_is ∙ played; clients = client_is }
 
 -- the plan is the one that the display's pass knows
 pub plan_is : (p q : Plan) (h : List Entry) (clients : List (Caller Plan Entry)) (display : Caller Plan Entry) → IsClosed q h (clients ++ display ∷ []) → display.plan ≡ Some p → q ≡ p

@@ -1,17 +1,12 @@
 -- A log in which each entry is of its caller's event.
-use Rattle.std.proofs.Common.{◌≡◌, ℕ, zero, suc, ◌≤◌, Bool, true, false, not, cond, ◌==◌, List, [], ◌∷◌, map, filter, refl, arith, eq-eqb}
+use Rattle.std.proofs.Common.{◌≡◌, ℕ, ◌≤◌, Bool, true, false, not, cond, ◌==◌, List, [], ◌∷◌, map, filter, refl, arith, eq-eqb}
 use Rattle.vz_loans.specs.Rule.{Log}
 use Rattle.vz_loans.proofs.Closing.{Each}
 use Rattle.vz_rules.specs.{Course.is_of_client, Course.displayed, Whole.mine, declared.entry.Entry.Entry, declared.entry.Event.Event}
 use Rattle.vz_rules.specs.declared.entry.Event.TheVariants as event
 use Rattle.vz_turn.specs.{Own.own_entries, Registers.entries_of}
-use Rattle.vz_callers.specs.{Callers.events_in, Callers.calls_of, Turns.rounds}
+use Rattle.vz_callers.specs.Callers.{events_in, IsEventOf}
 use Rattle.std.proofs.lemmas.Bool.Decides.{nat_tests}
-
--- the event is one that a caller with this number calls for: 0 is the display's
-abbrev pub IsEventOf : ℕ → Event → Type 0
-IsEventOf zero e = is_of_client e ≡ false
-IsEventOf (suc n) e = e ≡ event.Client (suc n)
 
 abbrev pub IsEntryOf : ℕ → Entry → Type 0
 IsEntryOf n e = IsEventOf n e.event
@@ -41,14 +36,6 @@ sorted_by (x ∷ xs) h = (
 pub each_event : (P : Event → Type 0) (es : List Entry) → Each P (events_in es) → Each (λ (e : Entry). P e.event) es
 each_event P [] h = tt
 each_event P (e ∷ es) h = (h.0, each_event P es h.1)
-
-pub rounds_display : (n : ℕ) → Each (IsEventOf 0) (rounds n)
-rounds_display zero = tt
-rounds_display (suc n) = (refl, (refl, (refl, rounds_display n)))
-
-pub calls_client : (c n : ℕ) → Each (IsEventOf (suc c)) (calls_of (suc c) n)
-calls_client c zero = tt
-calls_client c (suc n) = (refl, calls_client c n)
 
 -- To the events of a kind
 

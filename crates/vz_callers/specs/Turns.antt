@@ -2,6 +2,7 @@
 use Rattle.std.specs.Prelude.{◌≡◌, ℕ, ◌+◌, zero, suc, ◌≤◌, List, [], ◌∷◌, ◌++◌, length, Some}
 use Rattle.atomic_table.specs.Seated.{TableId}
 use Rattle.vz_loans.specs.Tokens.{Caller, unused, unused_from}
+use Rattle.vz_outside.specs.Told.{Call, AreTold}
 use Rattle.vz_frame.specs.declared.message.ClientFile.{ClientFile}
 use Rattle.vz_rules.specs.Plan.{Plan, message_counts}
 use Rattle.vz_rules.specs.World.{file_of}
@@ -35,3 +36,9 @@ pub record IsTurns (p : Plan) (ticks : ℕ) (h : List Entry) : Type 0 where
   pub legal : Legal p h
   pub display : events_in (displayed h) ≡ rounds ticks
   pub clients : (c : ℕ) (file : ClientFile) → 1 ≤ c → file_of p c ≡ Some file → length (mine h c) ≡ length file.messages
+
+-- a gate was told of each entry of a history: of the display's n-th as step n of actor 0, and of
+-- the n-th of client c as step n of actor c
+pub record AreEntriesTold (told : Call → Type 0) (h : List Entry) : Type 0 where
+  pub display : AreTold told 0 0 (length (displayed h))
+  pub clients : (c : ℕ) → 1 ≤ c → AreTold told c 0 (length (mine h c))

@@ -2,7 +2,7 @@
 ghost use Rattle.std.specs.Prelude.{◌≡◌, ◌≤◌, ◌++◌, [], OnOk, vec_len, vec_capacity};
 ghost use Rattle.vz_loans.specs.Tokens.{IsAtRest};
 ghost use Rattle.vz_rules.specs.Plan.{Plan};
-ghost use Rattle.vz_callers.specs.Callers.{events_of, Stays};
+ghost use Rattle.vz_callers.specs.Callers.{events_of, Stays, HasTold, IsDisplay};
 ghost use Rattle.vz_callers.specs.Crews.{numbers_of, IsCrew, IsBack};
 ghost use Rattle.vz_callers.specs.Turns.{rounds};
 
@@ -43,20 +43,23 @@ pub(crate) fn play_beside<
     gate: &G,
     messages: &[u64],
     ticks: u32,
-    started: Vec<Started<M>>,
+    started: Vec<Started<M, G>>,
     passes: Vec<Pass<M>>,
     display: Pass<M>,
 ) -> Beside<M>
 where
     M::Picture: Send + Drop,
-    requires crew { (p : Plan) × IsCrew hub.now.id p messages.now passes.items }
+    requires crew { (p : Plan)
+        × IsCrew (G.told gate.now) hub.now.id p messages.now passes.items }
     requires room { (started.items ≡ []) × (vec_len passes ≤ vec_capacity started) }
     requires display { IsAtRest hub.now.id display }
     ensures count { vec_len result.passes ≡ vec_len passes }
     ensures capacity { vec_capacity result.passes ≡ vec_capacity passes }
     ensures numbers { numbers_of result.passes.items ≡ numbers_of passes.items }
-    ensures back { (p : Plan) → IsCrew hub.now.id p messages.now passes.items
-        → IsBack hub.now.id p messages.now result.passes.items result.complete }
+    ensures back { (p : Plan)
+        → IsCrew (G.told gate.now) hub.now.id p messages.now passes.items
+        → IsBack (G.told gate.now) hub.now.id p messages.now result.passes.items result.complete }
+    ensures told { IsDisplay 0 display → HasTold (G.told gate.now) result.display }
     ensures stays { Stays display result.display }
     ensures played { OnOk result.played
         (events_of result.display ≡ events_of display ++ rounds ticks) }
@@ -65,15 +68,20 @@ where
         thread::scope_env(),
         rt,
         |scope| -> Beside<M>
-            requires crew { (p : Plan) × IsCrew hub.now.id p messages.now passes.items }
+            requires crew { (p : Plan)
+                × IsCrew (G.told gate.now) hub.now.id p messages.now passes.items }
             requires room { (started.items ≡ []) × (vec_len passes ≤ vec_capacity started) }
             requires display { IsAtRest hub.now.id display }
             ensures count { vec_len result.passes ≡ vec_len passes }
             ensures capacity { vec_capacity result.passes ≡ vec_capacity passes }
             ensures numbers { numbers_of result.passes.items ≡ numbers_of passes.items }
-            ensures back { (p : Plan) → IsCrew hub.entry.now.id p messages.entry.now passes.items
-                → IsBack hub.entry.now.id p messages.entry.now result.passes.items
-                result.complete }
+            ensures back { (p : Plan)
+                → IsCrew (G.told gate.entry.now) hub.entry.now.id p messages.entry.now
+                passes.items
+                → IsBack (G.told gate.entry.now) hub.entry.now.id p messages.entry.now
+                result.passes.items result.complete }
+            ensures told { IsDisplay 0 display
+                → HasTold (G.told gate.entry.now) result.display }
             ensures stays { Stays display result.display }
             ensures played { OnOk result.played
                 (events_of result.display ≡ events_of display ++ rounds ticks) }

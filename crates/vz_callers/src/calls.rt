@@ -1,16 +1,17 @@
 //! The calls of one caller. The gate is called before and after each.
-ghost use Rattle.std.specs.Prelude.{◌≡◌, ◌+◌, ◌++◌, ◌∷◌, [], OnOk, OnErr};
+ghost use Rattle.std.specs.Prelude.{◌≡◌, ◌+◌, ◌*◌, ◌++◌, ◌∷◌, [], OnOk, OnErr};
 ghost use Rattle.std.specs.Option.{ForSome};
 ghost use Rattle.vz_loans.specs.Tokens.{IsAtRest};
 ghost use Rattle.vz_rules.specs.Step.{NamesClient};
 ghost use Rattle.vz_callers.specs.Callers.{events_of, Stays, MayCall, MakesCalls};
+ghost use Rattle.vz_callers.specs.Callers.{HasTold, IsNext, IsDisplay, Enters};
 ghost use Rattle.vz_callers.specs.Turns.{round, rounds};
 
 use std::alloc::AllocGlobal;
 use std::sync::Wait;
 use vz_base::Memory;
 use vz_machine::Machine;
-use vz_outside::Gate;
+use vz_outside::{Gate, Turn, gated};
 use vz_rules::Event;
 use vz_turn::{Hub, Pass};
 
@@ -23,9 +24,9 @@ pub(crate) struct Called<M: Machine + Send> {
     pub(crate) made: u64,
 }
 
-/// Makes a call. `turn` numbers the calls of this caller from 1. The only error is `Memory`, and
-/// then the call made no entry. Conditions: the pass belongs to the hub and is not in a turn, and
-/// the client of a client's event is one of the plan.
+/// Makes a call with the gate around it, which is told that it is the caller's call number `turn`.
+/// The only error is `Memory`, and then the call made no entry. Conditions: the pass belongs to
+/// the hub and is not in a turn, and the client of a client's event is one of the plan.
 fn make_call<M: Machine + Send, G: Gate, R: Wait + AllocGlobal>(
     rt: &R,
     hub: &Hub<M>,
@@ -41,12 +42,39 @@ where
     ensures stays { Stays pass.old pass.new }
     ensures ok { OnOk result (events_of pass.new ≡ events_of pass.old ++ event ∷ []) }
     ensures err { OnErr result (events_of pass.new ≡ events_of pass.old) }
+    ensures told { IsNext pass.old turn event
+        → HasTold (G.told gate.now) pass.old → HasTold (G.told gate.now) pass.new }
 {
-    let actor = pass.number();
-    gate.before(actor, turn);
-    let told = hub.call(rt, pass, event);
-    gate.after(actor, turn);
-    match told {
+    let turn = Turn {
+        actor: pass.number(),
+        number: turn,
+    };
+    gated(
+        gate,
+        turn,
+        pass,
+        |pass|
+            requires ours { IsAtRest hub.now.id pass.now }
+            requires client { ForSome pass.now.plan (λ p. NamesClient p event) }
+        { enter(rt, hub, pass, event) },
+    )
+}
+
+/// Makes a call. The only error is `Memory`, and then it made no entry. Conditions: those of
+/// `make_call`.
+fn enter<M: Machine + Send, R: Wait + AllocGlobal>(
+    rt: &R,
+    hub: &Hub<M>,
+    pass: &mut Pass<M>,
+    event: Event,
+) -> Result<(), Memory>
+where
+    M::Picture: Send + Drop,
+    requires ours { IsAtRest hub.now.id pass.old }
+    requires client { ForSome pass.old.plan (λ p. NamesClient p event) }
+    ensures { Enters pass.old pass.new event result }
+{
+    match hub.call(rt, pass, event) {
         Ok(_) => Ok(()),
         Err(memory) => Err(memory),
     }
@@ -65,7 +93,7 @@ pub(crate) fn make_calls<M: Machine + Send, G: Gate, R: Wait + AllocGlobal>(
 where
     M::Picture: Send + Drop,
     requires { MayCall hub.now.id pass }
-    ensures { MakesCalls pass result.pass result.made }
+    ensures { MakesCalls (G.told gate.now) pass result.pass result.made }
 {
     let client = Event::Client(pass.number());
     for made in 0..count {
@@ -90,6 +118,8 @@ where
     requires { IsAtRest hub.now.id pass.old }
     ensures stays { Stays pass.old pass.new }
     ensures ok { OnOk result (events_of pass.new ≡ events_of pass.old ++ round) }
+    ensures told { IsDisplay (3 * before) pass.old
+        → HasTold (G.told gate.now) pass.old → HasTold (G.told gate.now) pass.new }
 {
     let turn = 3 * u64::from(before);
     make_call(rt, hub, gate, pass, turn + 1, Event::Begin)?;
@@ -111,6 +141,7 @@ where
     requires { IsAtRest hub.now.id pass.old }
     ensures stays { Stays pass.old pass.new }
     ensures ok { OnOk result (events_of pass.new ≡ events_of pass.old ++ rounds ticks) }
+    ensures told { IsDisplay 0 pass.old → HasTold (G.told gate.now) pass.new }
 {
     for before in 0..ticks {
         make_round(rt, hub, gate, pass, before)?;

@@ -15,24 +15,27 @@ use vz_machine::Machine;
 use vz_outside::Gate;
 use vz_turn::{Hub, Pass};
 
-/// A thread returns the pass that was given to it, after as many calls of its client as it says.
+/// A thread returns the pass that was given to it, after as many calls of its client as it says,
+/// each of which it told its gate.
 #[derive(Drop)]
-pub(crate) struct ClientCalls<M: Machine + Send> {
+pub(crate) struct ClientCalls<M: Machine + Send, G: Gate> {
     /// The pass as it was given to the thread.
     pub(crate) given: Snapshot<Pass<M>>,
+    /// The gate that the thread calls.
+    pub(crate) gate: Snapshot<G>,
 }
 
-impl<M: Machine + Send> Promise<Called<M>> for ClientCalls<M> {
+impl<M: Machine + Send, G: Gate> Promise<Called<M>> for ClientCalls<M, G> {
     ghost use Rattle.vz_callers.specs.Callers.{MakesCalls};
 
-    ghost kept_by = { λ p r. MakesCalls p.given.value r.pass r.made };
+    ghost kept_by = { λ p r. MakesCalls (G.told p.gate.value) p.given.value r.pass r.made };
 }
 
 /// The calls of a client.
 #[derive(Drop)]
-pub(crate) enum Started<M: Machine + Send> {
+pub(crate) enum Started<M: Machine + Send, G: Gate> {
     /// Its thread makes them.
-    Running(PromisedHandle<Called<M>, ClientCalls<M>>),
+    Running(PromisedHandle<Called<M>, ClientCalls<M, G>>),
     /// No thread could be started, and they were made here.
     Here(Called<M>),
 }
@@ -61,21 +64,23 @@ fn start<
     gate: &'s G,
     pass: Pass<M>,
     count: u64,
-) -> Started<M>
+) -> Started<M, G>
 where
     M::Picture: Send + Drop + 's,
     requires { MayCall hub.now.id pass }
     ensures number { number_of result ≡ pass.number }
-    ensures work { (p : Plan) → HasCalled hub.now.id p pass 0 → IsAtWork hub.now.id p result }
+    ensures work { (p : Plan) → HasCalled (G.told gate.now) hub.now.id p pass 0
+        → IsAtWork G.told gate.now hub.now.id p result }
 {
     let promise = ClientCalls {
         given: Snapshot::of(&pass),
+        gate: Snapshot::of(gate),
     };
     let started = scope.spawn_with(
         promise,
         move || -> Called<M>
             requires { MayCall hub.now.id pass }
-            ensures { MakesCalls pass result.pass result.made }
+            ensures { MakesCalls (G.told gate.entry.now) pass result.pass result.made }
         { make_calls(rt, hub, gate, pass, count) },
     );
     match started {
@@ -85,12 +90,15 @@ where
 }
 
 /// Waits for the calls of one client.
-fn finish<M: Machine + Send + Drop, R: Threads + Wait>(rt: &R, started: Started<M>) -> Called<M>
+fn finish<M: Machine + Send + Drop, G: Gate, R: Threads + Wait>(
+    rt: &R,
+    started: Started<M, G>,
+) -> Called<M>
 where
     M::Picture: Send + Drop,
     ensures number { result.pass.number ≡ number_of started }
-    ensures called { (id : TableId) (p : Plan) → IsAtWork id p started
-        → HasCalled id p result.pass result.made }
+    ensures called { (gate : G) (id : TableId) (p : Plan) → IsAtWork G.told gate id p started
+        → HasCalled (G.told gate) id p result.pass result.made }
 {
     match started {
         Started::Running(child) => child.join(rt),
@@ -114,18 +122,20 @@ pub(crate) fn start_all<
     gate: &'s G,
     messages: &[u64],
     passes: &mut Vec<Pass<M>>,
-    started: &mut Vec<Started<M>>,
+    started: &mut Vec<Started<M, G>>,
 )
 where
     M::Picture: Send + Drop + 's,
-    requires crew { (p : Plan) × IsCrew hub.now.id p messages.now passes.old.items }
+    requires crew { (p : Plan)
+        × IsCrew (G.told gate.now) hub.now.id p messages.now passes.old.items }
     requires room { (started.old.items ≡ []) × (vec_len passes.old ≤ vec_capacity started.old) }
     ensures none { passes.new.items ≡ [] }
     ensures capacity { vec_capacity passes.new ≡ vec_capacity passes.old }
     ensures count { vec_len started.new ≡ vec_len passes.old }
     ensures numbers { numbers_at_work started.new.items ≡ numbers_of passes.old.items }
-    ensures going { (p : Plan) → IsCrew hub.now.id p messages.now passes.old.items
-        → IsGoing hub.now.id p messages.now started.new.items }
+    ensures going { (p : Plan)
+        → IsCrew (G.told gate.now) hub.now.id p messages.now passes.old.items
+        → IsGoing G.told gate.now hub.now.id p messages.now started.new.items }
 {
     while let Some(pass) = passes.pop() {
         let count = count_of(&pass, messages);
@@ -136,22 +146,23 @@ where
 /// Waits for the calls of all clients, and puts their passes into the list in the order in which
 /// `start_all` took them. Returns whether each client made as many calls as its file has
 /// messages. Condition: there is room for all.
-pub(crate) fn finish_all<M: Machine + Send + Drop, R: Threads + Wait>(
+pub(crate) fn finish_all<M: Machine + Send + Drop, G: Gate, R: Threads + Wait>(
     rt: &R,
     messages: &[u64],
-    started: &mut Vec<Started<M>>,
+    started: &mut Vec<Started<M, G>>,
     passes: &mut Vec<Pass<M>>,
 ) -> bool
 where
     M::Picture: Send + Drop,
-    requires going { (id : TableId) × (p : Plan)
-        × IsGoing id p messages.now started.old.items }
+    requires going { (gate : G) × (id : TableId) × (p : Plan)
+        × IsGoing G.told gate id p messages.now started.old.items }
     requires room { (passes.old.items ≡ []) × (vec_len started.old ≤ vec_capacity passes.old) }
     ensures capacity { vec_capacity passes.new ≡ vec_capacity passes.old }
     ensures count { vec_len passes.new ≡ vec_len started.old }
     ensures numbers { numbers_of passes.new.items ≡ numbers_at_work started.old.items }
-    ensures back { (id : TableId) (p : Plan) → IsGoing id p messages.now started.old.items
-        → IsBack id p messages.now passes.new.items result }
+    ensures back { (gate : G) (id : TableId) (p : Plan)
+        → IsGoing G.told gate id p messages.now started.old.items
+        → IsBack (G.told gate) id p messages.now passes.new.items result }
 {
     let mut all = true;
     while let Some(one) = started.pop() {

@@ -8,10 +8,11 @@ use crate::crew::Started;
 use std::alloc::Global;
 use vz_base::Memory;
 use vz_machine::Machine;
+use vz_outside::Gate;
 use vz_turn::{Hub, Pass};
 
 /// A hub with its passes, and room for the threads.
-pub(crate) struct Opened<M: Machine + Send> {
+pub(crate) struct Opened<M: Machine + Send, G: Gate> {
     /// The hub, for the display and the clients.
     pub(crate) hub: Hub<M>,
     /// The pass of each client, in order.
@@ -19,17 +20,17 @@ pub(crate) struct Opened<M: Machine + Send> {
     /// The pass of the display.
     pub(crate) display: Pass<M>,
     /// Room for the threads, none of them started yet.
-    pub(crate) started: Vec<Started<M>>,
+    pub(crate) started: Vec<Started<M, G>>,
 }
 
 /// Makes a hub of a machine for the display and so many clients, and room for the thread of each
 /// client. The only error is `Memory`, and then the machine is lost. Conditions: the machine is in
 /// the opening world of its plan, and there are at most `MOST_FILES` clients.
-pub(crate) fn open_turns<M: Machine + Send + Drop>(
+pub(crate) fn open_turns<M: Machine + Send + Drop, G: Gate>(
     alloc: Global,
     machine: M,
     clients: usize,
-) -> Result<Opened<M>, Memory>
+) -> Result<Opened<M, G>, Memory>
 where
     M::Picture: Send,
     requires opening { (M.state machine).world ≡ opening (M.state machine).plan }

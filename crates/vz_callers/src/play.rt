@@ -4,7 +4,7 @@ ghost use Rattle.vz_base.specs.declared.limits.TheConstants.{MOST_FILES};
 ghost use Rattle.vz_rules.specs.Step.{Legal, world};
 ghost use Rattle.vz_rules.specs.World.{opening};
 ghost use Rattle.vz_rules.specs.Plan.{Plan, message_counts};
-ghost use Rattle.vz_callers.specs.Turns.{IsTurns, IsOpened};
+ghost use Rattle.vz_callers.specs.Turns.{IsTurns, IsOpened, AreEntriesTold};
 
 use crate::beside::{Beside, play_beside};
 use crate::opening::{Opened, open_turns};
@@ -23,7 +23,7 @@ use vz_rules::Entry;
 /// client's calls. `messages` has the number of messages of each client's file, in the order of
 /// the files. A message that comes too early makes an entry too, with the reply NotYet. The gate
 /// is called before and after each call; the display is actor 0, and client c is actor c.
-/// `history` gets the entries.
+/// `history` gets the entries, and the gate was told of each, also if an allocation fails.
 ///
 /// Conditions: the machine is in the opening world of its plan, which has at most `MOST_FILES`
 /// files, and the history is empty. The error is `Memory` if an allocation fails. Then some calls
@@ -45,6 +45,7 @@ where
     requires empty { history.old ≡ [] }
     ensures turns { OnOk result (IsTurns (M.state machine).plan ticks history.new) }
     ensures legal { Legal (M.state machine).plan history.new }
+    ensures gated { AreEntriesTold (G.told gate.now) history.new }
 {
     let opened = open_turns(rt.alloc(), machine, messages.len())?;
     let Played { machine, ended } = play_opened(rt, opened, messages, ticks, gate, history);
@@ -66,7 +67,7 @@ struct Played<M> {
 /// Condition: there is room for each thread.
 fn play_opened<M: Machine + Send + Drop, G: Gate + Sync, R>(
     rt: &R,
-    opened: Opened<M>,
+    opened: Opened<M, G>,
     messages: &[u64],
     ticks: u32,
     gate: &G,
@@ -86,6 +87,8 @@ where
         opened.passes.items opened.display → Legal p history.new }
     ensures turns { (p : Plan) → IsOpened p messages.now opened.hub.id opened.hub.callers
         opened.passes.items opened.display → OnOk result.ended (IsTurns p ticks history.new) }
+    ensures gated { (p : Plan) → IsOpened p messages.now opened.hub.id opened.hub.callers
+        opened.passes.items opened.display → AreEntriesTold (G.told gate.now) history.new }
 {
     let Opened {
         hub,

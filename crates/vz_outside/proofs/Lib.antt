@@ -16,3 +16,4 @@ mod ReadRules
 mod WriteRules
 mod OuterCalls
 mod CollectRules
+pub mod Passing

@@ -5,3 +5,4 @@ pub mod Shelved
 pub mod InMemory
 pub mod Outer
 pub mod Messages
+pub mod Told

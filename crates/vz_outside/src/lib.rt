@@ -12,7 +12,7 @@ mod shelf;
 mod sink;
 mod transfer;
 
-pub use gate::{Gate, OpenGate};
+pub use gate::{Gate, OpenGate, Turn, gated};
 pub use memory::MemoryShelf;
 pub use memory_sink::MemorySink;
 pub use real::{RealShelf, RealSink};

@@ -1,20 +1,15 @@
 -- How many steps each actor has taken.
-use Rattle.std.proofs.Common.{◌≡◌, ℕ, ◌+◌, ◌<◌, ◌≤◌, Bool, true, false, ◌==◌, List, [], ◌∷◌, ◌++◌, length, take, drop, get_or, refl, sym, ap, subst, ◌∙◌, arith, zero, suc, cond}
+use Rattle.std.proofs.Common.{◌≡◌, ℕ, ◌+◌, ◌<◌, ◌≤◌, Bool, true, false, ◌==◌, List, [], ◌∷◌, ◌++◌, length, take, drop, get_or, refl, sym, ap, subst, ◌∙◌, arith, zero, suc, cond, replicate}
 use Rattle.std.specs.{Prelude.min, Prelude.count_by, Prelude.◌^◌, Prelude.◌-◌, List.All}
-use Rattle.std.proofs.{lemmas.Bool.eqb-true, lemmas.List.take_more, lemmas.Grind.common_steps, lemmas.Bool.Decides.nat_tests}
+use Rattle.std.proofs.{lemmas.List.length-replicate, lemmas.Bool.eqb-true, lemmas.List.take_more, lemmas.Grind.common_steps, lemmas.Bool.Decides.nat_tests}
 use Rattle.vz_rules.proofs.Counts.{count_push}
 use Rattle.vz_base.specs.declared.limits.TheConstants.{MOST_FILES}
 use Rattle.vz_rules.specs.{Plan.Plan, declared.entry.Event.Event}
 use Rattle.vz_rules.specs.{World.World, World.opening, declared.entry.Entry.Entry, Step.step_in, Step.NamesClient, Step.LegalFrom, Step.Legal}
 use Rattle.vz_rules.specs.declared.entry.Event.TheVariants as event
-use Rattle.vz_player.specs.Played.{next_number, actor_in, is_step_of, steps_of}
+use Rattle.vz_player.specs.Played.{next_number, actor_in, is_step_of, steps_of, HasCounted}
 
--- these are the steps of so many actors in these entries
-pub record HasCounted (most : ℕ) (h : List Entry) (taken : List ℕ) : Type 0 where
-  pub all : length taken ≡ most
-  pub each : (actor : ℕ) → actor < most → get_or taken actor 0 ≡ steps_of h actor
-
-capped : (n : ℕ) → next_number (min n (2 ^ 64 - 1)) ≡ min (n + 1) (2 ^ 64 - 1)
+pub capped : (n : ℕ) → next_number (min n (2 ^ 64 - 1)) ≡ min (n + 1) (2 ^ 64 - 1)
 capped n = omega arith
 
 -- one number is put in the place of another
@@ -30,7 +25,7 @@ put_length taken i n here = grind (arith, common_steps)
 eqb_self : (n : ℕ) → (n == n) ≡ true
 eqb_self n = grind (arith, nat_tests)
 
-count_more : (h : List Entry) (e : Entry) (k : ℕ) → count_by (is_step_of k) (h ++ e ∷ []) ≡ count_by (is_step_of k) h + cond (actor_in e.event == k) 1 0
+pub count_more : (h : List Entry) (e : Entry) (k : ℕ) → count_by (is_step_of k) (h ++ e ∷ []) ≡ count_by (is_step_of k) h + cond (actor_in e.event == k) 1 0
 count_more h e k = count_push (is_step_of k) h e
 
 -- the number of one actor, where the step is its own and where it is not
@@ -75,7 +70,7 @@ next_counted most h i d v taken new a n here own actor within before is counted 
     (one_counted most (take i h) e taken new n before (within i d here) (is ∙ ap (λ j. next_number (get_or taken j 0)) at) (counted ∙ ap (λ j. take j taken ++ n ∷ drop (j + 1) taken) at))
 
 -- each entry of a legal history is a step of the display or of a client of the plan
-actor_within : (p : Plan) (e : Event) → length p.files ≤ MOST_FILES → NamesClient p e → actor_in e < MOST_FILES + 1
+pub actor_within : (p : Plan) (e : Event) → length p.files ≤ MOST_FILES → NamesClient p e → actor_in e < MOST_FILES + 1
 actor_within p (event.Client c) few named = omega (arith, few, named.1)
 actor_within p event.Begin few named = omega arith
 actor_within p event.Draw few named = omega arith
@@ -91,3 +86,15 @@ legal_within p w (e ∷ h) (suc k) d few legal here = legal_within p (step_in p 
 pub all_within : (p : Plan) (h : List Entry) → length p.files ≤ MOST_FILES → Legal p h → All (λ (e : Entry). actor_in e.event < MOST_FILES + 1) h
 unfolding Legal
 all_within p h few legal k d here = legal_within p (opening p) h k d few legal here
+
+-- no step was counted yet
+pub none_counted : (most : ℕ) (h : List Entry) (taken : List ℕ) → taken ≡ replicate most 0 → h ≡ [] → HasCounted most h taken
+none_counted most h taken is none = record {
+  all = ap length is ∙ length-replicate most 0;
+  each = λ actor within. ap (λ (l : List ℕ). get_or l actor 0) is ∙ (zeros most actor ∙ ap (λ (l : List Entry). steps_of l actor) (sym none));
+}
+  where
+    zeros : (n i : ℕ) → ◌≡◌ {A = ℕ} (get_or (replicate {A = ℕ} n 0) i 0) 0
+    zeros zero i = refl
+    zeros (suc n) zero = refl
+    zeros (suc n) (suc i) = zeros n i

@@ -1,5 +1,6 @@
 mod Undrawn
-mod Counting
+pub mod Counting
+pub mod Telling
 pub mod Frames
 mod Playing
 mod Testing

@@ -1,4 +1,5 @@
 pub mod Played
+pub mod Gated
 pub mod Tested
 pub mod Written
 pub mod Shown

@@ -1,5 +1,5 @@
 -- The state of a player.
-use Rattle.std.specs.Prelude.{◌≡◌, ℕ, ◌+◌, ◌-◌, ◌^◌, ◌≤◌, Bool, true, false, Option, Some, None, ◌⊎◌, List, [], ◌∷◌, ◌++◌, length, min, ◌==◌, count_by}
+use Rattle.std.specs.Prelude.{◌≡◌, ℕ, ◌+◌, ◌-◌, ◌^◌, ◌<◌, ◌≤◌, Bool, true, false, Option, Some, None, ◌⊎◌, List, [], ◌∷◌, ◌++◌, length, min, ◌==◌, count_by, get_or}
 use Rattle.std.specs.Option.{option_map}
 use Rattle.vz_base.specs.declared.limits.TheConstants.{MOST_FILES}
 use Rattle.vz_geom.specs.Display.{IsDisplaySize}
@@ -111,6 +111,15 @@ is_plain _ = false
 abbrev pub is_step_of : ℕ → Entry → Bool
 is_step_of actor e = actor_in e.event == actor
 
--- how many of these entries are steps of this actor, at most the greatest number of 64 bits
+-- how many of these entries are steps of this actor
+abbrev pub entries_by : List Entry → ℕ → ℕ
+entries_by h actor = count_by (is_step_of actor) h
+
+-- the same number, at most the greatest one of 64 bits
 abbrev pub steps_of : List Entry → ℕ → ℕ
-steps_of h actor = min (count_by (is_step_of actor) h) (2 ^ 64 - 1)
+steps_of h actor = min (entries_by h actor) (2 ^ 64 - 1)
+
+-- these are the steps of so many actors in these entries
+pub record HasCounted (most : ℕ) (h : List Entry) (taken : List ℕ) : Type 0 where
+  pub all : length taken ≡ most
+  pub each : (actor : ℕ) → actor < most → get_or taken actor 0 ≡ steps_of h actor

@@ -1,16 +1,19 @@
 //! Actors, which are the display and the clients, and the numbers of their steps.
-ghost use Rattle.std.specs.Prelude.{◌≡◌, ℕ, ◌<◌, ◌+◌, ◌++◌, ◌∷◌, replicate, take, drop, slice_index_or};
+ghost use Rattle.std.specs.Prelude.{◌≡◌, ◌<◌, ◌+◌, ◌++◌, ◌∷◌, replicate, take, drop, slice_index_or};
 ghost use Rattle.std.specs.List.{All};
 ghost use Rattle.vz_rules.specs.declared.entry.Entry.{Entry as OneEntry};
-ghost use Rattle.vz_player.specs.Played.{next_number, actor_in, steps_of};
+ghost use Rattle.vz_player.specs.Played.{next_number, actor_in, HasCounted};
 
-use crate::Turn;
 use std::marker::Model;
 use vz_base::limits::MOST_FILES;
+use vz_outside::Turn;
 use vz_rules::{Entry, Event};
 
 /// The greatest number of actors: the display and the clients of a plan.
 pub const MOST_ACTORS: usize = MOST_FILES + 1;
+
+/// The number of the display.
+pub(crate) const DISPLAY: u32 = 0;
 
 /// How many steps each actor has taken: first the display's number, then each client's. A number
 /// does not rise above `u64::MAX`.
@@ -40,28 +43,34 @@ impl Actors {
     /// Counts the steps of a history. Condition: each entry is a step of one of the actors.
     pub fn after(history: &[Entry]) -> Actors
         requires { All (λ (e : OneEntry). actor_in e.event < MOST_ACTORS) history.now }
-        ensures { (actor : ℕ) → actor < MOST_ACTORS
-            → slice_index_or result actor 0 ≡ steps_of history.now actor }
+        ensures { HasCounted MOST_ACTORS history.now result }
     {
         let mut actors = Actors::new();
         for entry in history {
-            actors.next_turn(actor_of(entry.event));
+            actors.count(actor_of(entry.event));
         }
         actors
     }
 
-    /// Counts one more step of an actor, and returns its name for a gate. Condition: it is one of
-    /// the actors.
-    pub fn next_turn(&mut self, actor: u32) -> Turn
+    /// The name of an actor's next step for a gate. Condition: it is one of the actors.
+    pub fn next_turn(&self, actor: u32) -> Turn
         requires { actor < MOST_ACTORS }
         ensures actor { result.actor ≡ actor }
-        ensures number { result.number ≡ next_number (slice_index_or self.old actor 0) }
-        ensures counted { self.new
-            ≡ take actor self.old ++ result.number ∷ drop (actor + 1) self.old }
+        ensures number { result.number ≡ next_number (slice_index_or self.now actor 0) }
     {
-        let number = self.taken[actor as usize].saturating_add(1);
-        self.taken[actor as usize] = number;
-        Turn { actor, number }
+        Turn {
+            actor,
+            number: self.taken[actor as usize].saturating_add(1),
+        }
+    }
+
+    /// Counts a step of an actor that was taken. Condition: it is one of the actors.
+    pub fn count(&mut self, actor: u32)
+        requires { actor < MOST_ACTORS }
+        ensures { self.new ≡ take actor self.old
+            ++ next_number (slice_index_or self.old actor 0) ∷ drop (actor + 1) self.old }
+    {
+        self.taken[actor as usize] = self.taken[actor as usize].saturating_add(1);
     }
 }
 

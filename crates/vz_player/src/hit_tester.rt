@@ -6,10 +6,11 @@ ghost use Rattle.vz_rules.specs.World.{opening};
 ghost use Rattle.vz_rules.specs.Step.{NamesClient, Legal};
 ghost use Rattle.vz_rules.specs.Whole.{hit_last};
 ghost use Rattle.vz_machine.specs.Stepping.{IsOnDisplay};
+ghost use Rattle.vz_player.specs.Gated.{IsGated};
 ghost use Rattle.vz_player.specs.Played.{is_plain};
 ghost use Rattle.vz_player.specs.Tested.{first_tested, tested_on, hit_then};
 
-use crate::actors::{Actors, actor_of};
+use crate::actors::{Actors, DISPLAY, actor_of};
 use crate::take::{client_gated, draw_gated, take_gated};
 use std::alloc::Global;
 use std::marker::Model;
@@ -33,6 +34,8 @@ pub struct HitTester<M: Machine + Drop> {
 }
 
 impl<M: Machine + Drop> Model for HitTester<M> {
+    ghost use Rattle.vz_player.specs.declared.actors.TheConstants.{MOST_ACTORS};
+    ghost use Rattle.vz_player.specs.Played.{HasCounted};
     ghost use Rattle.vz_player.specs.Tested.{Tested, IsTested};
 
     ghost Value = { Tested };
@@ -47,7 +50,7 @@ impl<M: Machine + Drop> Model for HitTester<M> {
       plan = (M.state t.machine).plan;
       history = t.history.list;
       point = t.point;
-    }) };
+    }) × HasCounted MOST_ACTORS t.history.list t.actors };
 }
 
 impl<M: Machine + Drop> HitTester<M> {
@@ -78,6 +81,7 @@ impl<M: Machine + Drop> HitTester<M> {
         requires { NamesClient self.old.plan event }
         ensures taken { OnOk result (self.new ≡ tested_on self.old event) }
         ensures err { OnErr result (self.new ≡ self.old) }
+        ensures gated { IsGated (G.told gate.now) self.old.history self.new.history }
     {
         match event {
             Event::Client(client) => self.take_client(alloc, gate, client),
@@ -91,11 +95,13 @@ impl<M: Machine + Drop> HitTester<M> {
         requires { NamesClient self.old.plan (event.Client client) }
         ensures taken { OnOk result (self.new ≡ tested_on self.old (event.Client client)) }
         ensures err { OnErr result (self.new ≡ self.old) }
+        ensures gated { IsGated (G.told gate.now) self.old.history self.new.history }
     {
         self.history.reserve(1)?;
         let turn = self.actors.next_turn(client);
         let taken = client_gated(alloc, gate, turn, &mut self.machine, client)?;
         self.history.put(taken);
+        self.actors.count(client);
         Ok(())
     }
 
@@ -105,11 +111,14 @@ impl<M: Machine + Drop> HitTester<M> {
         requires plain { is_plain event ≡ true }
         ensures taken { OnOk result (self.new ≡ tested_on self.old event) }
         ensures err { OnErr result (self.new ≡ self.old) }
+        ensures gated { IsGated (G.told gate.now) self.old.history self.new.history }
     {
         self.history.reserve(1)?;
-        let turn = self.actors.next_turn(actor_of(event));
+        let actor = actor_of(event);
+        let turn = self.actors.next_turn(actor);
         let plain = take_gated(alloc, gate, turn, &mut self.machine, event)?;
         self.history.put(plain);
+        self.actors.count(actor);
         Ok(())
     }
 
@@ -120,13 +129,15 @@ impl<M: Machine + Drop> HitTester<M> {
         M::Picture: Drop,
         ensures taken { OnOk result (self.new ≡ tested_on self.old event.Draw) }
         ensures err { OnErr result (self.new ≡ self.old) }
+        ensures gated { IsGated (G.told gate.now) self.old.history self.new.history }
     {
         self.history.reserve(1)?;
         let now = self.machine.hit(alloc, self.point)?;
-        let turn = self.actors.next_turn(actor_of(Event::Draw));
+        let turn = self.actors.next_turn(DISPLAY);
         let (entry, _picture) = draw_gated(alloc, gate, turn, &mut self.machine)?;
         self.hit = hit_after(now, &entry.reply, self.hit);
         self.history.put(entry);
+        self.actors.count(DISPLAY);
         Ok(())
     }
 

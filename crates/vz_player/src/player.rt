@@ -9,11 +9,12 @@ ghost use Rattle.vz_rules.specs.World.{opening};
 ghost use Rattle.vz_rules.specs.Step.{NamesClient, Legal, world};
 ghost use Rattle.vz_rules.specs.Log.{rest_of};
 ghost use Rattle.vz_display.specs.Displayed.{current, buffer_with, display_at};
+ghost use Rattle.vz_player.specs.Gated.{IsGated};
 ghost use Rattle.vz_player.specs.Played.{is_plain, first_played, played_at, played_on, machine_of, display_of, frames_of, painted_by, Writes, StopsAt};
 
 mod alone;
 
-use crate::actors::{Actors, actor_of};
+use crate::actors::{Actors, DISPLAY, actor_of};
 use crate::show::show_some;
 use crate::take::{client_gated, draw_gated, take_gated};
 use std::alloc::Global;
@@ -42,7 +43,8 @@ pub struct Player<M: Machine + Drop> {
 }
 
 impl<M: Machine + Drop> Model for Player<M> {
-    ghost use Rattle.vz_player.specs.Played.{Played, IsPlayed};
+    ghost use Rattle.vz_player.specs.declared.actors.TheConstants.{MOST_ACTORS};
+    ghost use Rattle.vz_player.specs.Played.{Played, IsPlayed, HasCounted};
 
     ghost Value = { Played };
 
@@ -58,7 +60,7 @@ impl<M: Machine + Drop> Model for Player<M> {
       history = p.history.list;
       buffers = p.buffers;
       stopped = p.stopped;
-    }) };
+    }) × HasCounted MOST_ACTORS p.history.list p.actors };
 }
 
 impl<M: Machine + Drop> Player<M> {
@@ -133,6 +135,7 @@ impl<M: Machine + Drop> Player<M> {
         ensures counted { OnOk result
             (steps.new + painted_by self.old ≡ steps.old + painted_by self.new) }
         ensures err { OnErr result (StopsAt self.old event self.new) }
+        ensures gated { IsGated (G.told gate.now) self.old.history self.new.history }
     {
         match event {
             Event::Client(client) => self.take_client(alloc, gate, client),
@@ -150,11 +153,13 @@ impl<M: Machine + Drop> Player<M> {
         ensures written { IfOk result (λ drawn. Writes self.old self.new drawn) }
         ensures counted { OnOk result (painted_by self.old ≡ painted_by self.new) }
         ensures err { OnErr result (StopsAt self.old (event.Client client) self.new) }
+        ensures gated { IsGated (G.told gate.now) self.old.history self.new.history }
     {
         self.history.reserve(1)?;
         let turn = self.actors.next_turn(client);
         let taken = client_gated(alloc, gate, turn, &mut self.machine, client)?;
         self.history.put(taken);
+        self.actors.count(client);
         Ok(false)
     }
 
@@ -169,11 +174,14 @@ impl<M: Machine + Drop> Player<M> {
         ensures written { IfOk result (λ drawn. Writes self.old self.new drawn) }
         ensures counted { OnOk result (painted_by self.old ≡ painted_by self.new) }
         ensures err { OnErr result (StopsAt self.old event self.new) }
+        ensures gated { IsGated (G.told gate.now) self.old.history self.new.history }
     {
         self.history.reserve(1)?;
-        let turn = self.actors.next_turn(actor_of(event));
+        let actor = actor_of(event);
+        let turn = self.actors.next_turn(actor);
         let plain = take_gated(alloc, gate, turn, &mut self.machine, event)?;
         self.history.put(plain);
+        self.actors.count(actor);
         Ok(false)
     }
 
@@ -195,11 +203,13 @@ impl<M: Machine + Drop> Player<M> {
         ensures counted { OnOk result
             (steps.new + painted_by self.old ≡ steps.old + painted_by self.new) }
         ensures err { OnErr result (StopsAt self.old event.Draw self.new) }
+        ensures gated { IsGated (G.told gate.now) self.old.history self.new.history }
     {
         self.history.reserve(1)?;
-        let turn = self.actors.next_turn(actor_of(Event::Draw));
+        let turn = self.actors.next_turn(DISPLAY);
         let (entry, picture) = draw_gated(alloc, gate, turn, &mut self.machine)?;
         self.history.put(entry);
+        self.actors.count(DISPLAY);
         self.stopped = true;
         let drawn = show_some(rt, alloc, picture, &mut self.display, steps)?;
         self.stopped = false;

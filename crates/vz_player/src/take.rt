@@ -4,13 +4,13 @@ ghost use Rattle.std.specs.Option.{option_map};
 ghost use Rattle.vz_rules.specs.declared.entry.Event.TheVariants as event;
 ghost use Rattle.vz_rules.specs.Step.{entry_in, NamesClient};
 ghost use Rattle.vz_machine.specs.Stepping.{Goes, ShowsDrawn};
+ghost use Rattle.vz_outside.specs.Told.{IsTold};
 ghost use Rattle.vz_player.specs.Played.{is_plain};
 
-use crate::{Turn, gated};
 use std::alloc::Global;
 use vz_base::Memory;
 use vz_machine::{Machine, Step};
-use vz_outside::Gate;
+use vz_outside::{Gate, Turn, gated};
 use vz_rules::{Entry, Event};
 
 /// Takes a client's event with the gate around it, and returns its entry. Condition: the plan has
@@ -29,6 +29,7 @@ pub fn client_gated<M: Machine, G: Gate>(
     ensures world { OnOk result
         (Goes (M.state machine.old) (event.Client client) (M.state machine.new)) }
     ensures err { OnErr result (M.state machine.new ≡ M.state machine.old) }
+    ensures told { IsTold (G.told gate.now) turn.actor turn.number }
 {
     gated(
         gate,
@@ -70,6 +71,7 @@ pub fn take_gated<M: Machine, G: Gate>(
     ensures picture { IfOk result (λ e. ShowsDrawn (M.state machine.old) e.reply None) }
     ensures world { OnOk result (Goes (M.state machine.old) event (M.state machine.new)) }
     ensures err { OnErr result (M.state machine.new ≡ M.state machine.old) }
+    ensures told { IsTold (G.told gate.now) turn.actor turn.number }
 {
     gated(
         gate,
@@ -114,6 +116,7 @@ pub fn draw_gated<M: Machine, G: Gate>(
         (option_map M.Picture.pictured r.1)) }
     ensures world { OnOk result (Goes (M.state machine.old) event.Draw (M.state machine.new)) }
     ensures err { OnErr result (M.state machine.new ≡ M.state machine.old) }
+    ensures told { IsTold (G.told gate.now) turn.actor turn.number }
 {
     gated(gate, turn, machine, |machine| { draw(alloc, machine) })
 }

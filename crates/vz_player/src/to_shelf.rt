@@ -4,6 +4,7 @@ ghost use Rattle.std.specs.List.{All};
 ghost use Rattle.vz_geom.specs.Display.{IsDisplaySize};
 ghost use Rattle.vz_outside.specs.Shelved.{Writing, KeepsOthers, Behaves};
 ghost use Rattle.vz_rules.specs.Step.{NamesClient};
+ghost use Rattle.vz_player.specs.Gated.{IsGated};
 ghost use Rattle.vz_player.specs.Played.{played_on, painted_by};
 ghost use Rattle.vz_player.specs.Taken.{played_all, StopsAmong, StopsWriting, AddsFrames, AddsFramesFront};
 
@@ -50,6 +51,7 @@ where
     ensures others { KeepsOthers ((F.shelved shelf.old).name file.slot)
         (F.shelved shelf.old) (F.shelved shelf.new) }
     ensures behaves { Behaves (F.shelved shelf.old) (F.shelved shelf.new) result }
+    ensures gated { IsGated (G.told gate.now) player.old.history player.new.history }
 {
     for event in events {
         play_one(rt, alloc, player, *event, shelf, file, gate, steps)?;
@@ -86,6 +88,7 @@ where
     ensures others { KeepsOthers ((F.shelved shelf.old).name file.slot)
         (F.shelved shelf.old) (F.shelved shelf.new) }
     ensures behaves { Behaves (F.shelved shelf.old) (F.shelved shelf.new) result }
+    ensures gated { IsGated (G.told gate.now) player.old.history player.new.history }
 {
     if !player.turn(rt, alloc, gate, event, steps)? {
         return Ok(());

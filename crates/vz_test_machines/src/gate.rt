@@ -3,6 +3,7 @@ use crate::course::CourseGate;
 use crate::meeting::MeetingGate;
 use crate::order::OrderGate;
 use crate::piped::PipedGate;
+use crate::shown::ShownGate;
 use vz_outside::Gate;
 
 /// On which side of a step a gate is called.
@@ -19,6 +20,7 @@ pub enum TestGate {
     Meeting(MeetingGate),
     Piped(PipedGate),
     Course(CourseGate),
+    Shown(ShownGate),
 }
 
 impl TestGate {
@@ -29,6 +31,7 @@ impl TestGate {
             TestGate::Meeting(gate) => gate.all_met(),
             TestGate::Piped(gate) => gate.all_met(),
             TestGate::Course(gate) => gate.is_told(),
+            TestGate::Shown(gate) => gate.all_met(),
         }
     }
 
@@ -39,17 +42,21 @@ impl TestGate {
             TestGate::Meeting(_) => {}
             TestGate::Piped(gate) => gate.write(),
             TestGate::Course(_) => {}
+            TestGate::Shown(gate) => gate.write(),
         }
     }
 }
 
 impl Gate for TestGate {
+    ghost told = { λ _ _. Unit {0} };
+
     fn before(&self, actor: u32, turn: u64) {
         match self {
             TestGate::Order(gate) => gate.call(actor, turn, Side::Before),
             TestGate::Meeting(gate) => gate.before(actor, turn),
             TestGate::Piped(gate) => gate.before(actor, turn),
             TestGate::Course(gate) => gate.call(actor, turn, Side::Before),
+            TestGate::Shown(gate) => gate.before(actor, turn),
         }
     }
 
@@ -59,6 +66,7 @@ impl Gate for TestGate {
             TestGate::Meeting(_) => {}
             TestGate::Piped(gate) => gate.after(actor),
             TestGate::Course(gate) => gate.call(actor, turn, Side::After),
+            TestGate::Shown(gate) => gate.after(actor, turn),
         }
     }
 }

@@ -18,3 +18,7 @@ err_as e r _ is p = grind (arith, nat_tests)
 pub as_err : {T E : Type 0} (e : E) (r : Result T E) (P : Result T E → Type 0) → IsErrAnd r (λ f. f ≡ e) → P (Err e) → P r
 as_err e (Ok x) P is p = absurd is
 as_err e (Err f) P is p = subst (λ x. P (Err x)) (sym is) p
+
+-- what holds of two values holds of those that they are
+pub at_both : {A : Type 0} (P : A → A → Type 0) (a b x y : A) → a ≡ x → b ≡ y → P a b → P x y
+at_both {A} P a b x y e f p = subst (λ (z : A × A). P z.0 z.1) (λ i. (e i, f i)) p

@@ -3,6 +3,7 @@ use Rattle.std.proofs.Common.{◌≡◌, ℕ, ◌+◌, ◌≤◌, Bool, List, []
 use Rattle.vz_base.specs.declared.limits.TheConstants.{MOST_TICKS}
 use Rattle.vz_geom.specs.declared.Size.{Size}
 use Rattle.vz_pixels.specs.Colour.{Colour}
+use Rattle.vz_outside.specs.Told.{Call}
 use Rattle.vz_outside.specs.Shelved.{Shelved, Name, Writing, KeepsOthers, Appends, AppendsFront, Behaves, with_more}
 use Rattle.vz_outside.specs.declared.shelf.ShelfError.{ShelfError}
 use Rattle.vz_outside.proofs.{Calls.Ran, Calls.ran_one, Behaving.then_behaves, Behaving.behaves_as}
@@ -10,7 +11,7 @@ use Rattle.vz_rules.specs.{Plan.Plan, Plan.IsPlan, declared.entry.Entry.Entry, S
 use Rattle.vz_rules.specs.Frames.{written, painted, frames_bytes, drawn_frames, drawn_frames_from}
 use Rattle.vz_display.specs.Displayed.{first_displayed, display_at}
 use Rattle.vz_display.proofs.Drawings.{first_is}
-use Rattle.vz_player.specs.{Played.Played, Played.played_at, Taken.AddsFrames}
+use Rattle.vz_player.specs.{Gated.IsGated, Played.Played, Played.played_at, Taken.AddsFrames}
 use Rattle.vz_player.proofs.{Adding.HasAdded, Adding.more_added, Adding.front_added, Adding.others_kept, Growing.frames_then_frames}
 use Rattle.vz_threads.specs.{Courses.IsRun, Courses.frames_of, Outlets.Outlook, Outlets.file_of, Tails.AddsTail, Tails.AllComeDue}
 use Rattle.vz_threads.specs.Rounds.{Setup, MayBegin}
@@ -48,11 +49,11 @@ is_ready k start begins is = record { begins = begins; display = is ∙ ap (λ (
 
 -- Once they have ended
 
-pub whole_of : (k : Setup) (rounds : ℕ) (paced : Bool) (start now : Outlook) (h : List Entry) (r : Result (Unit {0}) ShelfError) (x : Unit {0}) → HasRun k rounds paced start now h r → r ≡ Ok x → IsUpToTail k rounds paced start now h
-whole_of k rounds paced start now h r x run is = subst (λ (s : Result (Unit {0}) ShelfError). OnOk s (IsUpToTail k rounds paced start now h)) is run.whole
+pub whole_of : (told : Call → Type 0) (k : Setup) (rounds : ℕ) (paced : Bool) (start now : Outlook) (h : List Entry) (r : Result (Unit {0}) ShelfError) (x : Unit {0}) → HasRun told k rounds paced start now h r → r ≡ Ok x → IsUpToTail k rounds paced start now h
+whole_of told k rounds paced start now h r x run is = subst (λ (s : Result (Unit {0}) ShelfError). OnOk s (IsUpToTail k rounds paced start now h)) is run.whole
 
-pub cut_of : (k : Setup) (rounds : ℕ) (paced : Bool) (start now : Outlook) (h : List Entry) (r : Result (Unit {0}) ShelfError) (e : ShelfError) → HasRun k rounds paced start now h r → r ≡ Err e → IsCutThere k start now h (Err e)
-cut_of k rounds paced start now h r e run is = subst (λ (s : Result (Unit {0}) ShelfError). OnErr s (IsCutThere k start now h s)) is run.cut
+pub cut_of : (told : Call → Type 0) (k : Setup) (rounds : ℕ) (paced : Bool) (start now : Outlook) (h : List Entry) (r : Result (Unit {0}) ShelfError) (e : ShelfError) → HasRun told k rounds paced start now h r → r ≡ Err e → IsCutThere k start now h (Err e)
+cut_of told k rounds paced start now h r e run is = subst (λ (s : Result (Unit {0}) ShelfError). OnErr s (IsCutThere k start now h s)) is run.cut
 
 module _ (k : Setup) (rounds : ℕ) (paced : Bool) (start now : Outlook) (h : List Entry) (begins : MayBegin k start) (legal : Legal k.plan h) (w : IsUpToTail k rounds paced start now h) where
   -- each deadline is a tick that comes
@@ -100,3 +101,8 @@ ok_ran r a b behaves = grind (arith, nat_tests, ran_one)
 -- an error of the threads' part is one of the run
 pub cut_behaves : {T : Type 0} (e : ShelfError) (a b : Shelved) → Behaves {T = Unit {0}} a b (Err e) → Behaves {T = T} a b (Err e)
 cut_behaves e a b behaves = behaves_as e a b behaves (λ no. no)
+
+-- a gate was told of what a tail adds
+pub tail_gated : (told : Call → Type 0) (p : Plan) (n : ℕ) (h hist : List Entry) (old new : Played) → old ≡ played_at p h n → hist ≡ new.history → IsGated told old.history new.history → IsGated told h hist
+tail_gated told p n h hist old new is same gated =
+    subst (λ (x : List Entry × List Entry). IsGated told x.0 x.1) (λ i. (ap (λ (o : Played). o.history) is i, sym same i)) gated

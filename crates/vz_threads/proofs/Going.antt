@@ -48,7 +48,7 @@ caller_is e own = grind (arith, nat_tests)
 own_named : (p : Plan) (e : Event) → IsOwn e → NamesClient p e
 own_named p e own = grind (arith, nat_tests)
 
-event_of : (p : Plan) (w : World) (e : Event) (made : Entry) → made ≡ entry_in p w e → made.event ≡ e
+pub event_of : (p : Plan) (w : World) (e : Event) (made : Entry) → made ≡ entry_in p w e → made.event ≡ e
 unfolding entry_in
 event_of p w e made is = ap (λ (x : Entry). x.event) is
 

@@ -9,6 +9,7 @@ pub mod Crewing
 pub mod Taking
 pub mod Working
 pub mod Going
+pub mod Telling
 pub mod Showing
 pub mod Rounding
 pub mod Ends

@@ -4,6 +4,7 @@ use Rattle.std.specs.Prelude.{unwrap_or, None, IfSome, IfNone}
 use Rattle.vz_buffers.specs.Canvas.{Canvas}
 use Rattle.std.proofs.{lemmas.Grind.flat_map-append, lemmas.Bool.Decides.nat_tests}
 use mathlib.Core.List.{IsPrefix}
+use Rattle.vz_outside.specs.Told.{Call}
 use Rattle.vz_outside.specs.Shelved.{Shelved, Writing, KeepsOthers, Appends, AppendsFront, Behaves}
 use Rattle.vz_outside.specs.declared.shelf.ShelfError.{ShelfError}
 use Rattle.vz_outside.specs.declared.shelf.ShelfError.TheVariants.{Failed, Memory}
@@ -15,6 +16,7 @@ use Rattle.vz_player.proofs.Adding.{HasAdded, more_added, front_added, others_ke
 use Rattle.vz_threads.specs.{Courses.frames_of, Outlets.Outlook, Outlets.Fixed, Outlets.file_of, Rounds.Setup, Rounds.AreShown}
 use Rattle.vz_pipe.specs.Ends.{PipeId, Taking}
 use Rattle.vz_threads.specs.Pipes.{canvas_bytes, bytes_of, paper, Wrote, BeginsLeft, IsWrittenOn}
+use Rattle.vz_threads.specs.Told.{nothing}
 use Rattle.vz_threads.specs.Runs.{IsReady, IsOpened, IsUpToTail, IsCutThere, HasRun}
 use Rattle.vz_threads.proofs.{Crewing.crew_same, Gathered.has_run, Finished.whole_front}
 use Rattle.vz_threads.proofs.{Following.same_self, Following.cut_at, Papers.sent_is, Papers.front_is, Papers.front_of_front, Papers.front_longer}
@@ -31,7 +33,7 @@ memory_alone : (e : ShelfError) (v w a b : Shelved) → IsTrue v.is_faultless �
 memory_alone Failed v w a b faultless behaves ran = absurd (behaves.works faultless refl)
 memory_alone Memory v w a b faultless behaves ran = memory_behaves a b ran
 
-module _ (k : Setup) (rounds : ℕ) (paced : Bool) (start now first last : Outlook) (h : List Entry) (taken sent : List Canvas) (b : Shelved) where
+module _ (told : Call → Type 0) (k : Setup) (rounds : ℕ) (paced : Bool) (start now first last : Outlook) (h : List Entry) (taken sent : List Canvas) (b : Shelved) where
   abbrev frames : List ℕ
   frames = frames_of k.plan h k.buffers
 
@@ -46,7 +48,7 @@ module _ (k : Setup) (rounds : ℕ) (paced : Bool) (start now first last : Outlo
     front_frames : (r : Result (Unit {0}) ShelfError) → IsCutThere k first last h r → IsFront
     front_frames r cut = grind (arith, nat_tests, front_is)
 
-    either_front : (r : Result (Unit {0}) ShelfError) → HasRun k rounds paced first last h r → IsFront
+    either_front : (r : Result (Unit {0}) ShelfError) → HasRun told k rounds paced first last h r → IsFront
     either_front (Ok x) run = (length frames, omega arith, whole_frames run.whole.shown ∙ sym (take_all (length frames) frames (omega arith)))
     either_front (Err e) run = front_frames (Err e) run.cut
 
@@ -67,19 +69,21 @@ module _ (k : Setup) (rounds : ℕ) (paced : Bool) (start now first last : Outlo
         (subst (λ (s : Shelved). KeepsOthers (file_of start) start.shelf s) (sym same) others)
         (subst (λ (s : Shelved). Behaves {T = Unit {0}} start.shelf s (Err e)) (sym same) behaves)
 
-    pub piped_run : (wrote played result : Result (Unit {0}) ShelfError) → HasRun k rounds paced first last h played → Wrote (bytes_of taken) start.fixed.slot start.shelf b wrote → IsWrittenOn wrote played result taken sent start.fixed.slot b now.shelf → HasRun k rounds paced start now h result
+    pub piped_run : (wrote played result : Result (Unit {0}) ShelfError) → HasRun told k rounds paced first last h played → Wrote (bytes_of taken) start.fixed.slot start.shelf b wrote → IsWrittenOn wrote played result taken sent start.fixed.slot b now.shelf → HasRun told k rounds paced start now h result
     piped_run (Err e) played result run w rest =
-        subst (HasRun k rounds paced start now h) (sym rest.1)
-        (record { legal = run.legal; whole = tt; cut = stopped e (either_front played run) rest.0 rest.2 w.begun w.others w.behaves })
+        subst (HasRun told k rounds paced start now h) (sym rest.1)
+        (record { legal = run.legal; gated = run.gated; whole = tt; cut = stopped e (either_front played run) rest.0 rest.2 w.begun w.others w.behaves })
     piped_run (Ok x) (Err e) result run w rest =
-        subst (HasRun k rounds paced start now h) (sym rest.1) (record {
+        subst (HasRun told k rounds paced start now h) (sym rest.1) (record {
           legal = run.legal;
+          gated = run.gated;
           whole = tt;
           cut = stopped e (either_front (Err e) run) rest.0 rest.2 (whole_front (bytes_of taken) (file_of start) start.shelf b w.written) w.others
               (memory_alone e first.shelf last.shelf start.shelf b (subst (λ (s : Shelved). IsTrue s.is_faultless) (sym empty) refl) run.cut.behaves (ran_one x start.shelf b w.behaves));
         })
     piped_run (Ok x) (Ok y) (Ok z) run w rest = record {
       legal = run.legal;
+      gated = run.gated;
       whole = up_to run.whole
           (more_added start.fixed.slot (bytes_of taken) start.shelf b now.shelf (wrote_taken x w) (bytes_of rest.0.0) (bytes_of sent) rest.0.2 rest.2 (ran_one z b now.shelf rest.3)
           (bytes_then_bytes taken rest.0.0 sent rest.0.1));
@@ -87,6 +91,7 @@ module _ (k : Setup) (rounds : ℕ) (paced : Bool) (start now first last : Outlo
     }
     piped_run (Ok x) (Ok y) (Err e) run w rest = record {
       legal = run.legal;
+      gated = run.gated;
       whole = tt;
       cut = there (Err e) (either_front (Ok y) run)
           (front_added start.fixed.slot (bytes_of taken) start.shelf b now.shelf (wrote_taken x w) (bytes_of rest.1.0) [] (bytes_of sent) rest.1.2
@@ -136,11 +141,11 @@ left_begun start taken new sent x slot a b c before is prefix begun =
 
 -- A run that is given up before it begins
 
-pub given_up : (k : Setup) (rounds : ℕ) (paced : Bool) (start : Outlook) (id : TableId) (callers : ℕ) (q : Plan) (messages : List ℕ) (ends : List (Owner Totals)) (d : Owner DisplayTotals) (h : List Entry)
-    → IsReady k start → IsOpened k.plan messages id callers ends d → Legal q h → All (IsGatheredClient q h) ends → IsGatheredDisplay q h d → HasRun k rounds paced start start h (Err Memory)
-given_up k rounds paced start id callers q messages ends d h ready opened legal clients display =
-    has_run k rounds paced start start id callers q messages ends ends d d h ready opened (same_self d) (Err Memory) (Err Memory) tt
-    (λ k' begin played. (played.history, cut_at k' begin start d played.history played.at)) refl tt (crew_same ends) legal clients display
+pub given_up : (told : Call → Type 0) (k : Setup) (rounds : ℕ) (paced : Bool) (start : Outlook) (id : TableId) (callers : ℕ) (q : Plan) (messages : List ℕ) (ends : List (Owner Totals)) (d : Owner DisplayTotals) (h : List Entry)
+    → IsReady k start → IsOpened k.plan messages id callers ends d → Legal q h → All (IsGatheredClient q h) ends → IsGatheredDisplay q h d → HasRun told k rounds paced start start h (Err Memory)
+given_up told k rounds paced start id callers q messages ends d h ready opened legal clients display =
+    has_run told k rounds paced start start id callers q messages ends ends d d h ready opened (same_self d) (Err Memory) (Err Memory) tt
+    (λ k' begin played. (played.history, cut_at k' begin start d played.history played.at)) refl tt (crew_same told ends) (λ own. own.all) legal clients display
 
 -- Before the threads
 
@@ -153,15 +158,21 @@ ready_piped k start first ready display size empty = grind (arith, nat_tests)
 -- Once the threads have ended
 
 -- what an outlet borrows stays, and the pipe of its frames
-pub fixed_stays : (k : Setup) (rounds : ℕ) (paced : Bool) (start now : Outlook) (h : List Entry) (r : Result (Unit {0}) ShelfError) → HasRun k rounds paced start now h r → now.fixed ≡ start.fixed
-fixed_stays k rounds paced start now h r run = grind (arith, nat_tests)
+pub fixed_stays : (told : Call → Type 0) (k : Setup) (rounds : ℕ) (paced : Bool) (start now : Outlook) (h : List Entry) (r : Result (Unit {0}) ShelfError) → HasRun told k rounds paced start now h r → now.fixed ≡ start.fixed
+fixed_stays told k rounds paced start now h r run = grind (arith, nat_tests)
 
 pub pipe_stays : (a b : Fixed) (x y : PipeId Canvas) → a ≡ b → a.pipe ≡ Some x → b.pipe ≡ Some y → x ≡ y
 pipe_stays a b x y same is was = ap (λ (o : Option (PipeId Canvas)). unwrap_or o x) (sym is ∙ ap (λ (f : Fixed). f.pipe) same ∙ was)
 
+-- a gate that was told nothing was told of each entry, so any gate was
+any_gate : (told : Call → Type 0) (k : Setup) (rounds : ℕ) (paced : Bool) (start now : Outlook) (h : List Entry) (r : Result (Unit {0}) ShelfError) → HasRun nothing k rounds paced start now h r → HasRun told k rounds paced start now h r
+any_gate told k rounds paced start now h r run =
+    record { legal = run.legal; gated = λ actor n first upto. absurd ((run.gated actor n first upto).before); whole = run.whole; cut = run.cut }
+
 -- a run that was given up before it began, told of the display that was given back
-pub given_up_is : (k : Setup) (rounds : ℕ) (paced : Bool) (start now : Outlook) (h : List Entry) (r : Result (Unit {0}) ShelfError) → HasRun k rounds paced start start h (Err Memory) → now ≡ start → r ≡ Err Memory → HasRun k rounds paced start now h r
-given_up_is k rounds paced start now h r run same is = subst (λ (s : Outlook). HasRun k rounds paced start s h r) (sym same) (subst (HasRun k rounds paced start start h) (sym is) run)
+pub given_up_is : (told : Call → Type 0) (k : Setup) (rounds : ℕ) (paced : Bool) (start now : Outlook) (h : List Entry) (r : Result (Unit {0}) ShelfError) → HasRun nothing k rounds paced start start h (Err Memory) → now ≡ start → r ≡ Err Memory → HasRun told k rounds paced start now h r
+given_up_is told k rounds paced start now h r run same is =
+    subst (λ (s : Outlook). HasRun told k rounds paced start s h r) (sym same) (subst (HasRun told k rounds paced start start h) (sym is) (any_gate told k rounds paced start start h (Err Memory) run))
 
 -- what a pipe's taker has begins what it has after it took one more, or none
 pub longer_taken : (r : Option Canvas) (first old new : List Canvas) → IfSome r (λ x. new ≡ old ++ x ∷ []) → IfNone r (new ≡ old) → IsPrefix first old → IsPrefix first new

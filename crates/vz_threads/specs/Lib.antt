@@ -1,5 +1,6 @@
 pub mod Courses
 pub mod Tails
+pub mod Told
 pub mod Crews
 pub mod Outlets
 pub mod Rounds

@@ -40,31 +40,32 @@ pub(crate) fn play_beside<
     refused: &[AtomicBool],
     messages: &[u64],
     course: Course,
-    started: Vec<Started<M>>,
+    started: Vec<Started<M, G>>,
     ends: Vec<End<M, Halt>>,
     display: DisplayEnd<M, Halt>,
     outlet: O,
 ) -> Beside<M, O>
 where
     M::Picture: Send + Drop,
-    requires play { CanPlay desk.now.id messages.now course.paced (O.stands outlet)
-        ends.items display }
+    requires play { CanPlay (G.told gate.now) desk.now.id messages.now course.paced
+        (O.stands outlet) ends.items display }
     requires flags { length refused.now ≡ length messages.now }
     requires room { (started.items ≡ []) × (vec_len ends ≤ vec_capacity started) }
-    ensures played { PlaysOut course.rounds course.paced (O.stands outlet) (O.stands result.outlet)
-        ends.items result.ends.items display result.display result.played }
+    ensures played { PlaysOut (G.told gate.now) course.rounds course.paced (O.stands outlet)
+        (O.stands result.outlet) ends.items result.ends.items display result.display
+        result.played }
 {
     thread::scope(
         thread::scope_env(),
         rt,
         |scope| -> Beside<M, O>
-            requires play { CanPlay desk.now.id messages.now course.paced (O.stands outlet)
-                ends.items display }
+            requires play { CanPlay (G.told gate.now) desk.now.id messages.now course.paced
+                (O.stands outlet) ends.items display }
             requires flags { length refused.now ≡ length messages.now }
             requires room { (started.items ≡ []) × (vec_len ends ≤ vec_capacity started) }
-            ensures played { PlaysOut course.rounds course.paced (O.stands outlet)
-                (O.stands result.outlet) ends.items result.ends.items display result.display
-                result.played }
+            ensures played { PlaysOut (G.told gate.entry.now) course.rounds course.paced
+                (O.stands outlet) (O.stands result.outlet) ends.items result.ends.items display
+                result.display result.played }
         {
             let mut ends = ends;
             let mut started = started;

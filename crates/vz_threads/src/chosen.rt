@@ -27,7 +27,7 @@ use vz_player::FrameFile;
 /// yet.
 pub(crate) fn run_chosen<M: Machine + Send + Drop, F: Shelf + Send, G: Gate + Sync, L: Ledger, R>(
     rt: &R,
-    opened: Opened<M>,
+    opened: Opened<M, G>,
     messages: &[u64],
     course: Course,
     gate: &G,
@@ -53,7 +53,7 @@ where
     ensures run { (k : Setup)
         → IsReady k (outlook file.slot file.size display.shown (F.shelved shelf.old) steps.old)
         → IsOpened k.plan messages.now opened.desk.id opened.desk.callers opened.ends.items
-        opened.display → HasRun k course.rounds course.paced
+        opened.display → HasRun (G.told gate.now) k course.rounds course.paced
         (outlook file.slot file.size display.shown (F.shelved shelf.old) steps.old)
         (outlook file.slot file.size result.outlet.shown (F.shelved shelf.new) steps.new)
         result.history.list result.played }
@@ -89,7 +89,7 @@ where
 /// course says so. Conditions: those of `run_chosen`.
 fn run_framed<'a, M: Machine + Send + Drop, F: Shelf + Send, G: Gate + Sync, L: Ledger, R>(
     rt: &R,
-    opened: Opened<M>,
+    opened: Opened<M, G>,
     messages: &[u64],
     course: Course,
     gate: &G,
@@ -109,7 +109,7 @@ where
         opened.ends.items opened.display → (M.state result.machine).plan ≡ k.plan }
     ensures run { (k : Setup) → IsReady k (framed F.shelved outlet.entry) → IsOpened k.plan
         messages.now opened.desk.id opened.desk.callers opened.ends.items opened.display
-        → HasRun k course.rounds course.paced (framed F.shelved outlet.entry)
+        → HasRun (G.told gate.now) k course.rounds course.paced (framed F.shelved outlet.entry)
         (framed F.shelved result.outlet) result.history.list result.played }
 {
     if course.piped {

@@ -5,6 +5,7 @@ ghost use Rattle.vz_rules.specs.Frames.{painted};
 ghost use Rattle.vz_rules.specs.Log.{rest_of};
 ghost use Rattle.vz_rules.specs.Plan.{IsPlan};
 ghost use Rattle.vz_rules.specs.Step.{Legal, world};
+ghost use Rattle.vz_player.specs.Gated.{IsGated};
 ghost use Rattle.vz_display.specs.Displayed.{display_at};
 ghost use Rattle.vz_threads.specs.Runs.{EndsWithTail, WritesMore, WritesMoreFront};
 ghost use Rattle.vz_threads.specs.Tails.{AllComeDue};
@@ -63,6 +64,7 @@ where
     ensures others { KeepsOthers ((F.shelved shelf.old).name file.slot)
         (F.shelved shelf.old) (F.shelved shelf.new) }
     ensures behaves { Behaves (F.shelved shelf.old) (F.shelved shelf.new) result }
+    ensures gated { IsGated (G.told gate.now) gathered.list history.new }
 {
     let mut player = Player::resume(machine, display, gathered, buffers);
     match play_tail(rt, alloc, &mut player, shelf, file, gate, steps) {

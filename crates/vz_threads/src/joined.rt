@@ -75,19 +75,19 @@ fn play_with<
     refused: &[AtomicBool],
     messages: &[u64],
     course: Course,
-    started: Vec<Started<M>>,
+    started: Vec<Started<M, G>>,
     ends: Vec<End<M, Halt>>,
     display: DisplayEnd<M, Halt>,
     outlet: O,
 ) -> Joined<M, O, C>
 where
     M::Picture: Send + Drop,
-    requires play { CanPlay desk.now.id messages.now course.paced (O.stands outlet)
-        ends.items display }
+    requires play { CanPlay (G.told gate.now) desk.now.id messages.now course.paced
+        (O.stands outlet) ends.items display }
     requires flags { length refused.now ≡ length messages.now }
     requires room { (started.items ≡ []) × (vec_len ends ≤ vec_capacity started) }
     requires can { C.can chore }
-    ensures played { PlaysOut course.rounds course.paced (O.stands outlet)
+    ensures played { PlaysOut (G.told gate.now) course.rounds course.paced (O.stands outlet)
         (O.stands result.beside.outlet) ends.items result.beside.ends.items display
         result.beside.display result.beside.played }
     ensures done { C.done chore result.chore }
@@ -134,7 +134,7 @@ pub(crate) fn play_joined<
     refused: &[AtomicBool],
     messages: &[u64],
     course: Course,
-    started: Vec<Started<M>>,
+    started: Vec<Started<M, G>>,
     ends: Vec<End<M, Halt>>,
     display: DisplayEnd<M, Halt>,
     outlet: O,
@@ -142,12 +142,12 @@ pub(crate) fn play_joined<
 ) -> Joined<M, O, C>
 where
     M::Picture: Send + Drop,
-    requires play { CanPlay desk.now.id messages.now course.paced (O.stands outlet)
-        ends.items display }
+    requires play { CanPlay (G.told gate.now) desk.now.id messages.now course.paced
+        (O.stands outlet) ends.items display }
     requires flags { length refused.now ≡ length messages.now }
     requires room { (started.items ≡ []) × (vec_len ends ≤ vec_capacity started) }
     requires can { C.can chore }
-    ensures played { PlaysOut course.rounds course.paced (O.stands outlet)
+    ensures played { PlaysOut (G.told gate.now) course.rounds course.paced (O.stands outlet)
         (O.stands result.beside.outlet) ends.items result.beside.ends.items display
         result.beside.display result.beside.played }
     ensures done { C.done chore result.chore }
@@ -156,14 +156,14 @@ where
         thread::scope_env(),
         rt,
         |scope| -> Joined<M, O, C>
-            requires play { CanPlay desk.now.id messages.now course.paced (O.stands outlet)
-                ends.items display }
+            requires play { CanPlay (G.told gate.now) desk.now.id messages.now course.paced
+                (O.stands outlet) ends.items display }
             requires flags { length refused.now ≡ length messages.now }
             requires room { (started.items ≡ []) × (vec_len ends ≤ vec_capacity started) }
             requires can { C.can chore }
-            ensures played { PlaysOut course.rounds course.paced (O.stands outlet)
-                (O.stands result.beside.outlet) ends.items result.beside.ends.items display
-                result.beside.display result.beside.played }
+            ensures played { PlaysOut (G.told gate.entry.now) course.rounds course.paced
+                (O.stands outlet) (O.stands result.beside.outlet) ends.items
+                result.beside.ends.items display result.beside.display result.beside.played }
             ensures done { C.done chore result.chore }
         {
             play_with(

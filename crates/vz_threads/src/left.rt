@@ -24,10 +24,10 @@ pub(crate) fn take_left<M: Machine + Send, G: Gate, R: Wait + AllocGlobal>(
 ) -> Result<(), Memory>
 where
     M::Picture: Send,
-    requires { IsCrew desk.now.id messages.now ends.old.items }
+    requires { IsCrew (G.told gate.now) desk.now.id messages.now ends.old.items }
     ensures count { vec_len ends.new ≡ vec_len ends.old }
     ensures capacity { vec_capacity ends.new ≡ vec_capacity ends.old }
-    ensures works { CrewWorksOn ends.old.items ends.new.items }
+    ensures works { CrewWorksOn (G.told gate.now) ends.old.items ends.new.items }
     ensures all { OnOk result (All (HasTakenAll messages.now) ends.new.items) }
 {
     for end in ends.iter_mut() {

@@ -12,13 +12,14 @@ use std::sync::atomic::AtomicBool;
 use vz_base::Memory;
 use vz_desk::{Desk, DisplayEnd, End};
 use vz_machine::Machine;
+use vz_outside::Gate;
 
 /// A desk with its ends, and the room and the flags for the threads.
-pub(crate) struct Opened<M: Machine + Send> {
+pub(crate) struct Opened<M: Machine + Send, G: Gate> {
     pub(crate) desk: Desk<M, Halt>,
     pub(crate) ends: Vec<End<M, Halt>>,
     pub(crate) display: DisplayEnd<M, Halt>,
-    pub(crate) started: Vec<Started<M>>,
+    pub(crate) started: Vec<Started<M, G>>,
     pub(crate) refused: Vec<AtomicBool>,
 }
 
@@ -26,11 +27,11 @@ pub(crate) struct Opened<M: Machine + Send> {
 /// is `Memory`, and then the machine is lost. Conditions: the machine is in the opening world of
 /// its plan, which has at most `MOST_FILES` files, and `messages` has the number of messages of
 /// each.
-pub(crate) fn open_run<M: Machine + Send + Drop>(
+pub(crate) fn open_run<M: Machine + Send + Drop, G: Gate>(
     alloc: Global,
     machine: M,
     messages: &[u64],
-) -> Result<Opened<M>, Memory>
+) -> Result<Opened<M, G>, Memory>
 where
     M::Picture: Send,
     requires opening { (M.state machine).world ≡ opening (M.state machine).plan }

@@ -5,6 +5,7 @@ ghost use Rattle.vz_rules.specs.Step.{world};
 ghost use Rattle.vz_threads.specs.Outlets.{Outlook, framed};
 ghost use Rattle.vz_threads.specs.Rounds.{Setup};
 ghost use Rattle.vz_threads.specs.Runs.{IsReady, IsOpened, HasRun};
+ghost use Rattle.vz_threads.specs.Told.{nothing};
 
 use crate::back::give_back;
 use crate::opening::Opened;
@@ -40,7 +41,7 @@ pub(crate) fn run_piped<
     R,
 >(
     rt: &R,
-    opened: Opened<M>,
+    opened: Opened<M, G>,
     messages: &[u64],
     course: Course,
     gate: &G,
@@ -60,7 +61,7 @@ where
         opened.ends.items opened.display → (M.state result.machine).plan ≡ k.plan }
     ensures run { (k : Setup) → IsReady k (framed F.shelved frames.entry) → IsOpened k.plan
         messages.now opened.desk.id opened.desk.callers opened.ends.items opened.display
-        → HasRun k course.rounds course.paced (framed F.shelved frames.entry)
+        → HasRun (G.told gate.now) k course.rounds course.paced (framed F.shelved frames.entry)
         (framed F.shelved result.outlet) result.history.list result.played }
 {
     let Ok((mut sender, mut receiver)) = pipe::<SharedBuffer>(rt.alloc(), SLOTS) else {
@@ -131,7 +132,11 @@ where
 }
 
 /// Gathers the history of a run for which there is no memory. Condition: the desk was just opened.
-fn give_up<M: Machine + Send + Drop, O>(opened: Opened<M>, outlet: O, messages: &[u64]) -> Ran<M, O>
+fn give_up<M: Machine + Send + Drop, G: Gate, O>(
+    opened: Opened<M, G>,
+    outlet: O,
+    messages: &[u64],
+) -> Ran<M, O>
 where
     M::Picture: Send + Drop,
     requires { (k : Setup) × (start : Outlook) × IsReady k start × IsOpened k.plan messages.now
@@ -143,7 +148,7 @@ where
     ensures run { (k : Setup) (start : Outlook) (rounds : ℕ) (paced : Bool)
         → IsReady k start → IsOpened k.plan messages.now opened.desk.id opened.desk.callers
         opened.ends.items opened.display
-        → HasRun k rounds paced start start result.history.list (Err Memory) }
+        → HasRun nothing k rounds paced start start result.history.list (Err Memory) }
     ensures outlet { result.outlet ≡ outlet }
     ensures played { result.played ≡ Err Memory }
 {

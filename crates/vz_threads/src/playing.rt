@@ -1,10 +1,11 @@
 //! What the display does in a run while the threads of the clients take messages.
-ghost use Rattle.std.specs.Prelude.{◌≡◌, ◌⊎◌, OnOk, OnErr, vec_len, vec_capacity};
+ghost use Rattle.std.specs.Prelude.{◌≡◌, ◌⊎◌, All, OnOk, OnErr, vec_len, vec_capacity};
 ghost use Rattle.vz_rules.specs.declared.entry.Event.TheVariants as event;
 ghost use Rattle.vz_desk.specs.Displays.{Displays};
 ghost use Rattle.vz_desk.specs.Owners.{IsSameOwner, MakesNone};
-ghost use Rattle.vz_threads.specs.Crews.{IsCrew, CrewWorksOn, crew_of};
+ghost use Rattle.vz_threads.specs.Crews.{IsCrew, CrewWorksOn, crew_of, IsToldBy};
 ghost use Rattle.vz_threads.specs.Rounds.{IsSomewhere, HasBegunPlay, PlaysRound, PlaysAll, EndsRounds, IsCutFrom, IsCutShort};
+ghost use Rattle.vz_threads.specs.Told.{HasToldAll, IsToldOf};
 
 use crate::crew::{Started, serve_all};
 use crate::halt::Halt;
@@ -25,19 +26,23 @@ fn open_round<M: Machine + Send, G: Gate, R: Wait + AllocGlobal>(
     rt: &R,
     desk: &Desk<M, Halt>,
     gate: &G,
-    started: &mut Vec<Started<M>>,
+    started: &mut Vec<Started<M, G>>,
     messages: &[u64],
     d: &mut DisplayEnd<M, Halt>,
 ) -> Result<(), Memory>
 where
     M::Picture: Send,
     requires desk { d.old.desk ≡ desk.now.id }
-    requires crew { IsCrew desk.now.id messages.now (crew_of started.old.items) }
+    requires crew { IsCrew (G.told gate.now) desk.now.id messages.now (crew_of started.old.items) }
     ensures same { IsSameOwner d.old d.new }
     ensures made { OnOk result (Displays d.old d.new event.Begin) }
     ensures none { OnErr result (Displays d.old d.new event.Begin ⊎ MakesNone d.old d.new) }
+    ensures told { IsToldOf (G.told gate.now) d.old → IsToldOf (G.told gate.now) d.new }
     ensures count { vec_len started.new ≡ vec_len started.old }
-    ensures works { CrewWorksOn (crew_of started.old.items) (crew_of started.new.items) }
+    ensures works { CrewWorksOn (G.told gate.now)
+        (crew_of started.old.items) (crew_of started.new.items) }
+    ensures gates { All (IsToldBy gate.now) started.old.items
+        → All (IsToldBy gate.now) started.new.items }
 {
     begin_frame(rt, desk, gate, d)?;
     serve_all(rt, desk, gate, started, messages)?;
@@ -51,7 +56,7 @@ fn play_round<M: Machine + Send, O: Outlet, G: Gate, R: Threads + Wait + AllocGl
     rt: &R,
     desk: &Desk<M, Halt>,
     gate: &G,
-    started: &mut Vec<Started<M>>,
+    started: &mut Vec<Started<M, G>>,
     messages: &[u64],
     paced: bool,
     d: &mut DisplayEnd<M, Halt>,
@@ -60,15 +65,19 @@ fn play_round<M: Machine + Send, O: Outlet, G: Gate, R: Threads + Wait + AllocGl
 where
     M::Picture: Send + Drop,
     requires desk { d.old.desk ≡ desk.now.id }
-    requires crew { IsCrew desk.now.id messages.now (crew_of started.old.items) }
+    requires crew { IsCrew (G.told gate.now) desk.now.id messages.now (crew_of started.old.items) }
     requires somewhere { IsSomewhere (O.stands outlet.old) d.old }
     ensures same { IsSameOwner d.old d.new }
     ensures played { OnOk result
         (PlaysRound paced (O.stands outlet.old) d.old (O.stands outlet.new) d.new) }
     ensures cut { OnErr result
         (IsCutFrom (O.stands outlet.old) d.old (O.stands outlet.new) d.new result) }
+    ensures told { IsToldOf (G.told gate.now) d.old → IsToldOf (G.told gate.now) d.new }
     ensures count { vec_len started.new ≡ vec_len started.old }
-    ensures works { CrewWorksOn (crew_of started.old.items) (crew_of started.new.items) }
+    ensures works { CrewWorksOn (G.told gate.now)
+        (crew_of started.old.items) (crew_of started.new.items) }
+    ensures gates { All (IsToldBy gate.now) started.old.items
+        → All (IsToldBy gate.now) started.new.items }
 {
     let Ok(()) = open_round(rt, desk, gate, started, messages, d) else {
         return Err(ShelfError::Memory);
@@ -85,7 +94,7 @@ pub(crate) fn play<M: Machine + Send, O: Outlet, G: Gate, R: Threads + Wait + Al
     rt: &R,
     desk: &Desk<M, Halt>,
     gate: &G,
-    started: &mut Vec<Started<M>>,
+    started: &mut Vec<Started<M, G>>,
     messages: &[u64],
     course: Course,
     d: &mut DisplayEnd<M, Halt>,
@@ -94,15 +103,19 @@ pub(crate) fn play<M: Machine + Send, O: Outlet, G: Gate, R: Threads + Wait + Al
 where
     M::Picture: Send + Drop,
     requires desk { d.old.desk ≡ desk.now.id }
-    requires crew { IsCrew desk.now.id messages.now (crew_of started.old.items) }
+    requires crew { IsCrew (G.told gate.now) desk.now.id messages.now (crew_of started.old.items) }
     requires begun { HasBegunPlay course.paced (O.stands outlet.old) d.old }
     ensures same { IsSameOwner d.old d.new }
     ensures played { OnOk result
         (PlaysAll course.paced (O.stands outlet.old) d.old (O.stands outlet.new) d.new course.rounds) }
     ensures cut { OnErr result
         (IsCutShort course.paced (O.stands outlet.old) d.old (O.stands outlet.new) d.new result) }
+    ensures told { IsToldOf (G.told gate.now) d.old → HasToldAll (G.told gate.now) d.new }
     ensures count { vec_len started.new ≡ vec_len started.old }
-    ensures works { CrewWorksOn (crew_of started.old.items) (crew_of started.new.items) }
+    ensures works { CrewWorksOn (G.told gate.now)
+        (crew_of started.old.items) (crew_of started.new.items) }
+    ensures gates { All (IsToldBy gate.now) started.old.items
+        → All (IsToldBy gate.now) started.new.items }
 {
     for _ in 0..course.rounds {
         if let Err(error) = play_round(rt, desk, gate, started, messages, course.paced, d, outlet) {
@@ -134,6 +147,7 @@ where
         (EndsRounds (O.stands outlet.old) d.old (O.stands outlet.new) d.new) }
     ensures cut { OnErr result
         (IsCutFrom (O.stands outlet.old) d.old (O.stands outlet.new) d.new result) }
+    ensures told { IsToldOf (G.told gate.now) d.old → HasToldAll (G.told gate.now) d.new }
 {
     let Ok(()) = tell_over(rt, desk, gate, d) else {
         return Err(ShelfError::Memory);

@@ -45,8 +45,8 @@ fn take_rest<M: Machine + Send, G: Gate, R: Wait + AllocGlobal>(
 ) -> Result<(), ShelfError>
 where
     M::Picture: Send,
-    requires { IsCrew desk.now.id messages.now ends.old.items }
-    ensures works { CrewWorksOn ends.old.items ends.new.items }
+    requires { IsCrew (G.told gate.now) desk.now.id messages.now ends.old.items }
+    ensures works { CrewWorksOn (G.told gate.now) ends.old.items ends.new.items }
     ensures all { OnOk result (All (HasTakenAll messages.now) ends.new.items) }
     ensures rest { IsRestOf played result }
 {
@@ -74,16 +74,17 @@ where
     O: Outlet,
     requires { (k : Setup) × (rounds : ℕ) × (paced : Bool) × (start : Outlook)
         × (ends : List (Owner Totals)) × (display : Owner DisplayTotals)
-        × WasPlayed k rounds paced start (O.stands beside.outlet) messages.now desk.id desk.callers
-        ends beside.ends.items display beside.display beside.played }
+        × WasPlayed (G.told gate.now) k rounds paced start (O.stands beside.outlet) messages.now
+        desk.id desk.callers ends beside.ends.items display beside.display beside.played }
     ensures behind { (M.state result.machine).world
         ≡ world (M.state result.machine).plan result.history.list }
     ensures plan { (p : Plan) → beside.display.plan ≡ Some p → (M.state result.machine).plan ≡ p }
     ensures run { (k : Setup) (rounds : ℕ) (paced : Bool) (start : Outlook)
         (ends : List (Owner Totals)) (display : Owner DisplayTotals)
-        → WasPlayed k rounds paced start (O.stands beside.outlet) messages.now desk.id desk.callers
-        ends beside.ends.items display beside.display beside.played
-        → HasRun k rounds paced start (O.stands result.outlet) result.history.list result.played }
+        → WasPlayed (G.told gate.now) k rounds paced start (O.stands beside.outlet) messages.now
+        desk.id desk.callers ends beside.ends.items display beside.display beside.played
+        → HasRun (G.told gate.now) k rounds paced start (O.stands result.outlet)
+        result.history.list result.played }
     ensures outlet { result.outlet ≡ beside.outlet }
 {
     let Beside {
@@ -107,7 +108,7 @@ where
 /// the outlet has shown nothing yet.
 pub(crate) fn run_opened<M: Machine + Send + Drop, O: Outlet + Drop, G: Gate + Sync, R>(
     rt: &R,
-    opened: Opened<M>,
+    opened: Opened<M, G>,
     messages: &[u64],
     course: Course,
     gate: &G,
@@ -127,8 +128,8 @@ where
         opened.ends.items opened.display → (M.state result.machine).plan ≡ k.plan }
     ensures run { (k : Setup) → IsReady k (O.stands outlet) → IsOpened k.plan messages.now
         opened.desk.id opened.desk.callers opened.ends.items opened.display
-        → HasRun k course.rounds course.paced (O.stands outlet) (O.stands result.outlet)
-        result.history.list result.played }
+        → HasRun (G.told gate.now) k course.rounds course.paced (O.stands outlet)
+        (O.stands result.outlet) result.history.list result.played }
 {
     let Opened {
         desk,

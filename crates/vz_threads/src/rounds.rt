@@ -1,11 +1,13 @@
 //! What the display does in a round. The gate is called before and after each step.
-ghost use Rattle.std.specs.Prelude.{◌≡◌, true, IfOk, OnOk, OnErr, IsTrue, IsFalse};
+ghost use Rattle.std.specs.Prelude.{◌≡◌, ◌+◌, true, IfOk, OnOk, OnErr, IsTrue, IsFalse};
 ghost use Rattle.vz_rules.specs.declared.entry.Event.TheVariants as event;
+ghost use Rattle.vz_outside.specs.Told.{number_of};
 ghost use Rattle.vz_desk.specs.Answers.{IsPaused};
 ghost use Rattle.vz_desk.specs.Displays.{Displays, EndsFrame};
 ghost use Rattle.vz_desk.specs.Drawings.{IsDrawing};
 ghost use Rattle.vz_desk.specs.Owners.{IsSameOwner, MakesNone};
 ghost use Rattle.vz_threads.specs.Rounds.{IsSomewhere, ShowsOnce, EndsRound, IsCutFrom};
+ghost use Rattle.vz_threads.specs.Told.{counted_in, HasToldAll, IsToldOf};
 
 use crate::halt::Halt;
 use crate::outlet::Outlet;
@@ -15,13 +17,14 @@ use std::thread::Threads;
 use vz_base::Memory;
 use vz_desk::{Answer, Desk, DisplayEnd, Drawing, Hold};
 use vz_machine::Machine;
-use vz_outside::{Gate, ShelfError};
-use vz_player::Turn;
+use vz_outside::{Gate, ShelfError, Turn, gated};
 
 /// The display's next step, as it is named to a gate.
 fn next_turn<M: Machine + Send>(d: &DisplayEnd<M, Halt>) -> Turn
 where
     M::Picture: Send,
+    ensures actor { result.actor ≡ 0 }
+    ensures number { result.number ≡ number_of (counted_in d.now.totals + 1) }
 {
     let taken = d
         .begins()
@@ -33,7 +36,8 @@ where
     }
 }
 
-/// Begins a frame. The error is `Memory` if the desk was stopped or an allocation failed.
+/// Begins a frame, with the gate around it. The error is `Memory` if the desk was stopped or an
+/// allocation failed.
 pub(crate) fn begin_frame<M: Machine + Send, G: Gate, R: Wait + AllocGlobal>(
     rt: &R,
     desk: &Desk<M, Halt>,
@@ -46,18 +50,40 @@ where
     ensures same { IsSameOwner d.old d.new }
     ensures made { OnOk result (Displays d.old d.new event.Begin) }
     ensures none { OnErr result (MakesNone d.old d.new) }
+    ensures told { IsToldOf (G.told gate.now) d.old → IsToldOf (G.told gate.now) d.new }
 {
     let turn = next_turn(d);
-    gate.before(turn.actor, turn.number);
-    let answer = desk.begin(rt, d);
-    gate.after(turn.actor, turn.number);
-    match answer? {
+    gated(
+        gate,
+        turn,
+        d,
+        |d|
+            requires { d.now.desk ≡ desk.now.id }
+        { begin(rt, desk, d) },
+    )
+}
+
+/// Begins a frame. The error is `Memory` if the desk was stopped or an allocation failed.
+fn begin<M: Machine + Send, R: Wait + AllocGlobal>(
+    rt: &R,
+    desk: &Desk<M, Halt>,
+    d: &mut DisplayEnd<M, Halt>,
+) -> Result<(), Memory>
+where
+    M::Picture: Send,
+    requires { d.old.desk ≡ desk.now.id }
+    ensures same { IsSameOwner d.old d.new }
+    ensures made { OnOk result (Displays d.old d.new event.Begin) }
+    ensures none { OnErr result (MakesNone d.old d.new) }
+{
+    match desk.begin(rt, d)? {
         Answer::Did(_) => Ok(()),
         Answer::Stopped(_) => Err(Memory),
     }
 }
 
-/// Takes the event Over. The error is `Memory` if the desk was stopped or an allocation failed.
+/// Takes the event Over, with the gate around it. The error is `Memory` if the desk was stopped or
+/// an allocation failed.
 pub(crate) fn tell_over<M: Machine + Send, G: Gate, R: Wait>(
     rt: &R,
     desk: &Desk<M, Halt>,
@@ -70,12 +96,33 @@ where
     ensures same { IsSameOwner d.old d.new }
     ensures made { OnOk result (Displays d.old d.new event.Over) }
     ensures none { OnErr result (MakesNone d.old d.new) }
+    ensures told { IsToldOf (G.told gate.now) d.old → HasToldAll (G.told gate.now) d.new }
 {
     let turn = next_turn(d);
-    gate.before(turn.actor, turn.number);
-    let answer = desk.over(rt, d);
-    gate.after(turn.actor, turn.number);
-    match answer? {
+    gated(
+        gate,
+        turn,
+        d,
+        |d|
+            requires { d.now.desk ≡ desk.now.id }
+        { over(rt, desk, d) },
+    )
+}
+
+/// Takes the event Over. The error is `Memory` if the desk was stopped or an allocation failed.
+fn over<M: Machine + Send, R: Wait>(
+    rt: &R,
+    desk: &Desk<M, Halt>,
+    d: &mut DisplayEnd<M, Halt>,
+) -> Result<(), Memory>
+where
+    M::Picture: Send,
+    requires { d.old.desk ≡ desk.now.id }
+    ensures same { IsSameOwner d.old d.new }
+    ensures made { OnOk result (Displays d.old d.new event.Over) }
+    ensures none { OnErr result (MakesNone d.old d.new) }
+{
+    match desk.over(rt, d)? {
         Answer::Did(_) => Ok(()),
         Answer::Stopped(_) => Err(Memory),
     }
@@ -136,6 +183,7 @@ where
         (EndsRound paced (O.stands outlet.old) d.old (O.stands outlet.new) d.new) }
     ensures cut { OnErr result
         (IsCutFrom (O.stands outlet.old) d.old (O.stands outlet.new) d.new result) }
+    ensures told { IsToldOf (G.told gate.now) d.old → IsToldOf (G.told gate.now) d.new }
 {
     let Ok(()) = pause(rt, desk, paced, d, outlet) else {
         return Err(ShelfError::Memory);
@@ -146,7 +194,7 @@ where
     Ok(())
 }
 
-/// Draws, and returns the answer.
+/// Draws, with the gate around it, and returns the answer.
 fn ask_drawing<M: Machine + Send, G: Gate, R: Wait + AllocGlobal>(
     rt: &R,
     desk: &Desk<M, Halt>,
@@ -159,12 +207,36 @@ where
     ensures same { IsSameOwner d.old d.new }
     ensures drawing { IfOk result (λ x. IsDrawing M.Picture.pictured d.old d.new x) }
     ensures none { OnErr result (MakesNone d.old d.new) }
+    ensures told { IsToldOf (G.told gate.now) d.old → IsToldOf (G.told gate.now) d.new }
 {
     let turn = next_turn(d);
-    gate.before(turn.actor, turn.number);
-    let drawing = desk.draw(rt, d);
-    gate.after(turn.actor, turn.number);
-    Ok(drawing?)
+    gated(
+        gate,
+        turn,
+        d,
+        |d|
+            requires { d.old.desk ≡ desk.now.id }
+            ensures same { IsSameOwner d.old d.new }
+            ensures drawing { IfOk result (λ x. IsDrawing M.Picture.pictured d.old d.new x) }
+            ensures none { OnErr result (MakesNone d.old d.new) }
+        { draw(rt, desk, d) },
+    )
+}
+
+/// Draws, and returns the answer.
+fn draw<M: Machine + Send, R: Wait + AllocGlobal>(
+    rt: &R,
+    desk: &Desk<M, Halt>,
+    d: &mut DisplayEnd<M, Halt>,
+) -> Result<Drawing<M, Halt>, Memory>
+where
+    M::Picture: Send,
+    requires { d.old.desk ≡ desk.now.id }
+    ensures same { IsSameOwner d.old d.new }
+    ensures drawing { IfOk result (λ x. IsDrawing M.Picture.pictured d.old d.new x) }
+    ensures none { OnErr result (MakesNone d.old d.new) }
+{
+    Ok(desk.draw(rt, d)?)
 }
 
 /// Draws, shows the picture if there is one, and calls Done. If showing it fails, Done is still
@@ -191,6 +263,7 @@ where
         (ShowsOnce (O.stands outlet.old) d.old (O.stands outlet.new) d.new) }
     ensures cut { OnErr result
         (IsCutFrom (O.stands outlet.old) d.old (O.stands outlet.new) d.new result) }
+    ensures told { IsToldOf (G.told gate.now) d.old → IsToldOf (G.told gate.now) d.new }
 {
     let Ok(drawing) = ask_drawing(rt, desk, gate, d) else {
         return Err(ShelfError::Memory);
@@ -206,8 +279,9 @@ where
     }
 }
 
-/// Calls Done for the drawn frame. Conditions: the end and the token of the frame are of this
-/// desk, and a frame is in flight.
+/// Calls Done for the drawn frame, with the gate around it: the token of the frame has to be spent,
+/// so no closure may hold it. Conditions: the end and the token are of this desk, and a frame is in
+/// flight.
 fn end_frame<M: Machine + Send, G: Gate, R: Wait>(
     rt: &R,
     desk: &Desk<M, Halt>,
@@ -222,6 +296,7 @@ where
     requires flies { d.old.totals.in_flight ≡ true }
     ensures same { IsSameOwner d.old d.new }
     ensures done { EndsFrame d.old d.new }
+    ensures told { IsToldOf (G.told gate.now) d.old → IsToldOf (G.told gate.now) d.new }
 {
     let turn = next_turn(d);
     gate.before(turn.actor, turn.number);

@@ -7,6 +7,7 @@ ghost use Rattle.vz_rules.specs.Log.{rest_of};
 ghost use Rattle.vz_rules.specs.Plan.{IsPlan, message_counts};
 ghost use Rattle.vz_rules.specs.Step.{Legal};
 ghost use Rattle.vz_rules.specs.World.{opening};
+ghost use Rattle.vz_player.specs.Gated.{AreGated};
 ghost use Rattle.vz_threads.specs.Courses.{IsRun, frames_of};
 
 use crate::chosen::run_chosen;
@@ -89,6 +90,7 @@ where
     ensures others { KeepsOthers ((F.shelved shelf.old).name file.slot)
         (F.shelved shelf.old) (F.shelved shelf.new) }
     ensures behaves { Behaves (F.shelved shelf.old) (F.shelved shelf.new) result }
+    ensures gated { AreGated (G.told gate.now) history.new }
 {
     let Ok(opened) = open_run(rt.alloc(), machine, messages) else {
         return Err(ShelfError::Memory);

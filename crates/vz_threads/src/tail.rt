@@ -5,6 +5,7 @@ ghost use Rattle.vz_outside.specs.Shelved.{Writing, KeepsOthers, Behaves};
 ghost use Rattle.vz_rules.specs.declared.entry.Entry.{Entry as OneEntry};
 ghost use Rattle.vz_rules.specs.Course.{is_drawn};
 ghost use Rattle.vz_rules.specs.Step.{world};
+ghost use Rattle.vz_player.specs.Gated.{IsGated};
 ghost use Rattle.vz_player.specs.Played.{painted_by};
 ghost use Rattle.vz_player.specs.Taken.{AddsFrames, AddsFramesFront};
 ghost use Rattle.vz_threads.specs.Tails.{AddsTail, GoesOn, AllComeDue};
@@ -50,6 +51,7 @@ where
     ensures others { KeepsOthers ((F.shelved shelf.old).name file.slot)
         (F.shelved shelf.old) (F.shelved shelf.new) }
     ensures behaves { Behaves (F.shelved shelf.old) (F.shelved shelf.new) result }
+    ensures gated { IsGated (G.told gate.now) player.old.history player.new.history }
 {
     while player.machine().waiting() {
         play_frames(rt, alloc, player, &[Event::Begin], shelf, file, gate, steps)?;

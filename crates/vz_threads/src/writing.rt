@@ -71,7 +71,7 @@ pub(crate) fn run_beside<
     R,
 >(
     rt: &R,
-    opened: Opened<M>,
+    opened: Opened<M, G>,
     messages: &[u64],
     course: Course,
     gate: &G,
@@ -97,8 +97,8 @@ where
         opened.ends.items opened.display → (M.state result.0.machine).plan ≡ k.plan }
     ensures run { (k : Setup) → IsReady k (O.stands outlet) → IsOpened k.plan messages.now
         opened.desk.id opened.desk.callers opened.ends.items opened.display
-        → HasRun k course.rounds course.paced (O.stands outlet) (O.stands result.0.outlet)
-        result.0.history.list result.0.played }
+        → HasRun (G.told gate.now) k course.rounds course.paced (O.stands outlet)
+        (O.stands result.0.outlet) result.0.history.list result.0.played }
     ensures pipe { receiver.new.pipe ≡ receiver.old.pipe }
     ensures wrote { Wrote (bytes_of receiver.new.taken) slot (F.shelved shelf.old)
         (F.shelved shelf.new) result.1 }

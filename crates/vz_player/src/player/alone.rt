@@ -3,10 +3,11 @@ ghost use Rattle.std.specs.Prelude.{◌≡◌, ◌+◌, false, is_some, IfOk, If
 ghost use Rattle.std.specs.Option.{option_map};
 ghost use Rattle.vz_rules.specs.declared.entry.Event.TheVariants as event;
 ghost use Rattle.vz_rules.specs.Step.{NamesClient};
+ghost use Rattle.vz_player.specs.Gated.{IsGated};
 ghost use Rattle.vz_player.specs.Played.{played_on, painted_by, Shows, Costs, Writes, StopsAt};
 
 use crate::Player;
-use crate::actors::actor_of;
+use crate::actors::DISPLAY;
 use crate::take::draw_gated;
 use std::alloc::Global;
 use std::sync::ledger::Ledger;
@@ -37,6 +38,7 @@ where
         ensures counted { OnOk result
             (steps.new + painted_by self.old ≡ steps.old + painted_by self.new) }
         ensures err { OnErr result (StopsAt self.old event self.new) }
+        ensures gated { IsGated (G.told gate.now) self.old.history self.new.history }
     {
         match event {
             Event::Client(client) => self.take_client(alloc, gate, client),
@@ -60,11 +62,13 @@ where
         ensures counted { OnOk result
             (steps.new + painted_by self.old ≡ steps.old + painted_by self.new) }
         ensures err { OnErr result (StopsAt self.old event.Draw self.new) }
+        ensures gated { IsGated (G.told gate.now) self.old.history self.new.history }
     {
         self.history.reserve(1)?;
-        let turn = self.actors.next_turn(actor_of(Event::Draw));
+        let turn = self.actors.next_turn(DISPLAY);
         let (entry, picture) = draw_gated(alloc, gate, turn, &mut self.machine)?;
         self.history.put(entry);
+        self.actors.count(DISPLAY);
         self.stopped = true;
         let drawn = show_some_alone(alloc, picture, &mut self.display, steps)?;
         self.stopped = false;

@@ -74,3 +74,6 @@ returns-clause-begun g c =
     let b = g.F.Shelf.shelved c.play_course.new.shelf in
     subst (λ (n : ℕ). OnErr c.play_course.result (AppendsFront (frames_of p h n) (a.name c.args.slot) a b))
     c.buffer_count.ensures c.play_course.ensures.begun
+
+pub returns-clause-gated : goal.returns-clause-gated
+returns-clause-gated g c = c.play_course.ensures.gated

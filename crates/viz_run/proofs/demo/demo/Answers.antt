@@ -5,6 +5,7 @@ use Rattle.viz_run.specs.Planned.{demo_plan}
 use Rattle.viz_run.specs.Demo.{demo_events}
 use Rattle.viz_run.proofs.Demonstrated.{none_played, all_played, named_by, front_by, history_by, counted_by, line_by}
 use Rattle.viz_run.proofs.Opened.{its_plan, its_world, of_its_plan}
+use Rattle.viz_run.proofs.Gating.{none_gated}
 use Rattle.viz_run.proofs.demo.demo.Goals as goal
 
 pub returns-in_err-plan-clause-front : goal.returns-in_err-plan-clause-front
@@ -90,3 +91,21 @@ returns-clause-counted g c =
     let plan = opened ∙ c.in_ok-plan.ensures in
     let events = c.deref.ensures.value ∙ c.in_ok-events.ensures in
     counted_by c.args.rounds p es plan events c.play_all.new.history c.args.steps.now c.play_all.new.steps c.in_ok-painted.ensures.counted
+
+pub returns-in_err-plan-clause-gated : goal.returns-in_err-plan-clause-gated
+returns-in_err-plan-clause-gated g c = none_gated (g.G.Gate.told c.args.gate.now) c.args.history.now c.requires.empty
+
+pub returns-in_err-events-clause-gated : goal.returns-in_err-events-clause-gated
+returns-in_err-events-clause-gated g c = none_gated (g.G.Gate.told c.args.gate.now) c.args.history.now c.requires.empty
+
+pub returns-in_err-machine-clause-gated : goal.returns-in_err-machine-clause-gated
+returns-in_err-machine-clause-gated g c = none_gated (g.G.Gate.told c.args.gate.now) c.args.history.now c.requires.empty
+
+pub returns-in_err-painted-clause-gated : goal.returns-in_err-painted-clause-gated
+returns-in_err-painted-clause-gated g c = c.play_all.ensures.gated
+
+pub returns-in_err-demo_line-clause-gated : goal.returns-in_err-demo_line-clause-gated
+returns-in_err-demo_line-clause-gated g c = c.play_all.ensures.gated
+
+pub returns-clause-gated : goal.returns-clause-gated
+returns-clause-gated g c = c.play_all.ensures.gated

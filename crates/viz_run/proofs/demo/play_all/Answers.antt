@@ -6,6 +6,7 @@ use Rattle.vz_player.specs.Played.{Played}
 use Rattle.vz_rules.specs.Plan.{Plan}
 use Rattle.vz_rules.specs.Step.{NamesClient}
 use Rattle.viz_run.proofs.Takes.{points_shown, points_counted}
+use Rattle.viz_run.proofs.Gating.{made_gated}
 use Rattle.viz_run.proofs.demo.play_all.Goals as goal
 
 pub new-player-requires-clause-files : goal.new-player-requires-clause-files
@@ -33,3 +34,11 @@ returns-in-Ok-clause-counted g c =
     let p = (g.M.Machine.state c.args.machine).plan in
     points_counted p DEFAULT_BUFFERS c.args.events.now c.new-player.result c.take_all.new.player c.into_history.result c.new-player.ensures
     c.in-Ok.ensures.taken c.into_history.ensures.value _ _ c.in-Ok.ensures.counted
+
+pub returns-in-Ok-clause-gated : goal.returns-in-Ok-clause-gated
+returns-in-Ok-clause-gated g c =
+    made_gated (g.G.Gate.told c.args.gate.now) c.new-player.result.history c.take_all.new.player.history c.into_history.result (ap (λ (x : Played). x.history) c.new-player.ensures) c.into_history.ensures.value c.take_all.ensures.gated
+
+pub returns-in-Err-clause-gated : goal.returns-in-Err-clause-gated
+returns-in-Err-clause-gated g c =
+    made_gated (g.G.Gate.told c.args.gate.now) c.new-player.result.history c.take_all.new.player.history c.into_history-in-Err.result (ap (λ (x : Played). x.history) c.new-player.ensures) c.into_history-in-Err.ensures.value c.take_all.ensures.gated

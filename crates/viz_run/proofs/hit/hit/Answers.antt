@@ -15,6 +15,7 @@ use Rattle.viz_run.proofs.Exits.{memory_at, refused_at, memory_behind, done_behi
 use Rattle.viz_run.proofs.Fitting.{some_named, hit_sides_fit, hit_files_fit, column_near, row_near, point_fits}
 use Rattle.viz_run.proofs.Opened.{its_plan, its_world, of_its_plan}
 use Rattle.viz_run.proofs.Stepping.{went_through}
+use Rattle.viz_run.proofs.Gating.{none_gated}
 use Rattle.viz_run.proofs.hit.hit.Goals as goal
 
 pub size_of-size-requires : goal.size_of-size-requires
@@ -54,22 +55,22 @@ find_hit-requires-clause-point g c = λ _ _.
     (subst (λ (q : Point). IsTrue (has (sized (record { w = pos w.width; h = pos w.height })) q)) (sym c.point_of-point.ensures)
     (point_fits w.width w.height w.schedule.now w.x w.y (texts w.files.now) c.requires.fits))
 
-pub returns-in_err-plan : goal.returns-in_err-plan
-returns-in_err-plan g c = λ steps.
+pub returns-in_err-plan-clause-answers : goal.returns-in_err-plan-clause-answers
+returns-in_err-plan-clause-answers g c = λ steps.
     let a = g.F.Shelf.shelved c.args.shelf.now in
     let w = c.args.words.now in
     refused_at (command_of w) c.args.history.now a _ steps c.from_residual.result _ c.from_residual.ensures.1 c.in_err-plan.ensures.words
     (λ x at. hit_refused w.width w.height w.schedule.now w.x w.y (texts w.files.now) _ a c.size_of-size.ensures.size x
     (c.in_err-plan.ensures.input x at)) c.requires.empty c.in_err-plan.ensures.files c.in_err-plan.ensures.behaves
 
-pub returns-in_err-machine : goal.returns-in_err-machine
-returns-in_err-machine g c = λ steps.
+pub returns-in_err-machine-clause-answers : goal.returns-in_err-machine-clause-answers
+returns-in_err-machine-clause-answers g c = λ steps.
     let a = g.F.Shelf.shelved c.args.shelf.now in
     memory_at (command_of c.args.words.now) c.args.history.now a _ steps c.from_residual-in_err-machine.result
     c.from_residual-in_err-machine.ensures.1 c.requires.empty c.admit.ensures.files (went_through c.in_ok-plan.field-0 a _ c.in_ok-plan.ensures.behaves)
 
-pub returns-in_err-hit : goal.returns-in_err-hit
-returns-in_err-hit g c = λ steps.
+pub returns-in_err-hit-clause-answers : goal.returns-in_err-hit-clause-answers
+returns-in_err-hit-clause-answers g c = λ steps.
     let a = g.F.Shelf.shelved c.args.shelf.now in
     let b = g.F.Shelf.shelved c.admit.new.shelf in
     let w = c.args.words.now in
@@ -84,8 +85,8 @@ returns-in_err-hit g c = λ steps.
     c.from_residual-in_err-hit.result c.from_residual-in_err-hit.ensures.1
     (made_front asked got.0 p _ makes h c.in_err-hit.ensures.front) tt (none_kept_out b) (ran_none b)
 
-pub returns-in_err-hit_line : goal.returns-in_err-hit_line
-returns-in_err-hit_line g c = λ steps.
+pub returns-in_err-hit_line-clause-answers : goal.returns-in_err-hit_line-clause-answers
+returns-in_err-hit_line-clause-answers g c = λ steps.
     let a = g.F.Shelf.shelved c.args.shelf.now in
     let b = g.F.Shelf.shelved c.admit.new.shelf in
     let w = c.args.words.now in
@@ -100,8 +101,8 @@ returns-in_err-hit_line g c = λ steps.
     c.from_residual-in_err-hit_line.result c.from_residual-in_err-hit_line.ensures.1
     (made_front asked got.0 p _ makes h (all_played p _ h c.in_ok-hit.ensures.history)) tt (none_kept_out b) (ran_none b)
 
-pub returns : goal.returns
-returns g c = λ steps.
+pub returns-clause-answers : goal.returns-clause-answers
+returns-clause-answers g c = λ steps.
     let a = g.F.Shelf.shelved c.args.shelf.now in
     let b = g.F.Shelf.shelved c.admit.new.shelf in
     let w = c.args.words.now in
@@ -120,3 +121,18 @@ returns g c = λ steps.
           ∙ ap (λ (x : Plan). end_line asked x h) makes.0),
       refl,
     ) (omega arith) (none_kept_out b) (ran_none b)
+
+pub returns-in_err-plan-clause-gated : goal.returns-in_err-plan-clause-gated
+returns-in_err-plan-clause-gated g c = none_gated (g.G.Gate.told c.args.gate.now) c.args.history.now c.requires.empty
+
+pub returns-in_err-machine-clause-gated : goal.returns-in_err-machine-clause-gated
+returns-in_err-machine-clause-gated g c = none_gated (g.G.Gate.told c.args.gate.now) c.args.history.now c.requires.empty
+
+pub returns-in_err-hit-clause-gated : goal.returns-in_err-hit-clause-gated
+returns-in_err-hit-clause-gated g c = c.find_hit.ensures.gated
+
+pub returns-in_err-hit_line-clause-gated : goal.returns-in_err-hit_line-clause-gated
+returns-in_err-hit_line-clause-gated g c = c.find_hit.ensures.gated
+
+pub returns-clause-gated : goal.returns-clause-gated
+returns-clause-gated g c = c.find_hit.ensures.gated

@@ -6,6 +6,7 @@ use Rattle.viz_run.proofs.Demonstrated.{none_played, all_played}
 use Rattle.vz_threads.specs.Courses.{frames_of}
 use Rattle.viz_run.specs.Ends.{log_of}
 use Rattle.viz_run.proofs.Shown_whole.{frames_begun, frames_whole, log_begun, both_whole}
+use Rattle.viz_run.proofs.Gating.{none_gated}
 use Rattle.viz_run.proofs.playing.play.Goals as goal
 
 pub returns-in_err-outputs-clause-front : goal.returns-in_err-outputs-clause-front
@@ -84,3 +85,15 @@ returns-clause-behaves g c =
     then_behaves _ _ _ _ (ran_then_ran _ _ _ (ran_one c.in_ok-outputs.outputs _ _ c.in_ok-outputs.ensures.behaves)
     (ran_one c.in_ok-rest.rest _ _ c.in_ok-rest.ensures.behaves))
     c.in_ok-write_log.ensures.behaves (λ z. z)
+
+pub returns-in_err-outputs-clause-gated : goal.returns-in_err-outputs-clause-gated
+returns-in_err-outputs-clause-gated g c = none_gated (g.G.Gate.told c.args.gate.now) c.args.history.now c.requires.empty
+
+pub returns-in_err-rest-clause-gated : goal.returns-in_err-rest-clause-gated
+returns-in_err-rest-clause-gated g c = c.show.ensures.gated
+
+pub returns-in_err-write_log-clause-gated : goal.returns-in_err-write_log-clause-gated
+returns-in_err-write_log-clause-gated g c = c.show.ensures.gated
+
+pub returns-clause-gated : goal.returns-clause-gated
+returns-clause-gated g c = c.show.ensures.gated

@@ -10,6 +10,7 @@ use Rattle.viz_run.specs.Ends.{IsHistory}
 use Rattle.viz_run.proofs.Demonstrated.{all_played}
 use Rattle.viz_run.proofs.Showing.{has_played, has_stopped, is_history, rest_is, frames_appended, frames_begun, whole_appended}
 use Rattle.viz_run.proofs.Takes.{points_counted}
+use Rattle.viz_run.proofs.Gating.{made_gated}
 use Rattle.viz_run.proofs.playing.show.Goals as goal
 
 pub new-player-requires-clause-files : goal.new-player-requires-clause-files
@@ -125,3 +126,15 @@ returns-in-Err-clause-begun g c =
     let taken = has_stopped old new es c.in-Err.ensures.stops in
     frames_begun (g.M.Machine.state c.args.machine).plan DEFAULT_BUFFERS (take taken.0 es) old new c.into_history-in-Err.result first
     taken.1 c.into_history-in-Err.ensures.value (a.name c.args.slot) a b c.in-Err.ensures.begun
+
+pub returns-in_err-rest-in-Ok-clause-gated : goal.returns-in_err-rest-in-Ok-clause-gated
+returns-in_err-rest-in-Ok-clause-gated g c =
+    made_gated (g.G.Gate.told c.args.gate.now) c.new-player.result.history c.play_frames.new.player.history c.into_history.result (ap (λ (x : Played). x.history) c.new-player.ensures) c.into_history.ensures.value c.play_frames.ensures.gated
+
+pub returns-in_ok-rest-in-Ok-clause-gated : goal.returns-in_ok-rest-in-Ok-clause-gated
+returns-in_ok-rest-in-Ok-clause-gated g c =
+    made_gated (g.G.Gate.told c.args.gate.now) c.new-player.result.history c.play_frames.new.player.history c.into_history.result (ap (λ (x : Played). x.history) c.new-player.ensures) c.into_history.ensures.value c.play_frames.ensures.gated
+
+pub returns-in-Err-clause-gated : goal.returns-in-Err-clause-gated
+returns-in-Err-clause-gated g c =
+    made_gated (g.G.Gate.told c.args.gate.now) c.new-player.result.history c.play_frames.new.player.history c.into_history-in-Err.result (ap (λ (x : Played). x.history) c.new-player.ensures) c.into_history-in-Err.ensures.value c.play_frames.ensures.gated

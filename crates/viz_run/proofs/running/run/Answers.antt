@@ -19,6 +19,7 @@ use Rattle.viz_run.proofs.Fitting.{some_named, run_buffers_fit, run_names_differ
 use Rattle.viz_run.proofs.Performing.{behaves_for}
 use Rattle.viz_run.proofs.Opened.{its_plan, its_world, of_its_plan}
 use Rattle.viz_run.proofs.Stepping.{all_begun, went_through}
+use Rattle.viz_run.proofs.Gating.{none_gated}
 use Rattle.viz_run.proofs.running.run.Goals as goal
 
 pub size_of-size-requires : goal.size_of-size-requires
@@ -54,8 +55,8 @@ play_run-requires-clause-size g c =
 pub play_run-requires-clause-apart : goal.play_run-requires-clause-apart
 play_run-requires-clause-apart g c = λ _ _. run_names_differ _ _ _ _ _ _ _ _ _ c.requires.fits
 
-pub returns-in_err-plan : goal.returns-in_err-plan
-returns-in_err-plan g c =
+pub returns-in_err-plan-clause-answers : goal.returns-in_err-plan-clause-answers
+returns-in_err-plan-clause-answers g c =
     let a = g.F.Shelf.shelved c.args.shelf.now in
     let w = c.args.words.now in
     refused_at (command_of w) c.args.history.now a _ c.args.steps.now c.from_residual.result _ c.from_residual.ensures.1 c.in_err-plan.ensures.words
@@ -63,20 +64,20 @@ returns-in_err-plan g c =
     (c.in_err-plan.ensures.input x at)) c.requires.empty c.in_err-plan.ensures.files
     (behaves_for _ a _ (λ missing. misses_left (texts w.files.now) _ a missing) c.in_err-plan.ensures.behaves)
 
-pub returns-in_err-counts : goal.returns-in_err-counts
-returns-in_err-counts g c =
+pub returns-in_err-counts-clause-answers : goal.returns-in_err-counts-clause-answers
+returns-in_err-counts-clause-answers g c =
     let a = g.F.Shelf.shelved c.args.shelf.now in
     memory_at (command_of c.args.words.now) c.args.history.now a _ c.args.steps.now c.from_residual-in_err-counts.result
     c.from_residual-in_err-counts.ensures.1 c.requires.empty c.read_plan.ensures.files (went_through c.in_ok-plan.plan a _ c.in_ok-plan.ensures.behaves)
 
-pub returns-in_err-machine : goal.returns-in_err-machine
-returns-in_err-machine g c =
+pub returns-in_err-machine-clause-answers : goal.returns-in_err-machine-clause-answers
+returns-in_err-machine-clause-answers g c =
     let a = g.F.Shelf.shelved c.args.shelf.now in
     memory_at (command_of c.args.words.now) c.args.history.now a _ c.args.steps.now c.from_residual-in_err-machine.result
     c.from_residual-in_err-machine.ensures.1 c.requires.empty c.read_plan.ensures.files (went_through c.in_ok-plan.plan a _ c.in_ok-plan.ensures.behaves)
 
-pub returns-in_err-play_run : goal.returns-in_err-play_run
-returns-in_err-play_run g c =
+pub returns-in_err-play_run-clause-answers : goal.returns-in_err-play_run-clause-answers
+returns-in_err-play_run-clause-answers g c =
     let a = g.F.Shelf.shelved c.args.shelf.now in
     let b = g.F.Shelf.shelved c.read_plan.new.shelf in
     let asked = command_of c.args.words.now in
@@ -90,8 +91,8 @@ returns-in_err-play_run g c =
     (subst (λ (x : Plan). Legal x c.play_run.new.history) makes c.in_err-play_run.ensures.legal) c.in_err-play_run.ensures.begun.begun
     c.in_err-play_run.ensures.begun.others c.in_err-play_run.ensures.behaves
 
-pub returns-in_err-done_line : goal.returns-in_err-done_line
-returns-in_err-done_line g c =
+pub returns-in_err-done_line-clause-answers : goal.returns-in_err-done_line-clause-answers
+returns-in_err-done_line-clause-answers g c =
     let a = g.F.Shelf.shelved c.args.shelf.now in
     let b = g.F.Shelf.shelved c.read_plan.new.shelf in
     let d = g.F.Shelf.shelved c.play_run.new.shelf in
@@ -107,8 +108,8 @@ returns-in_err-done_line g c =
     (subst (λ (x : Plan). Legal x h) makes c.in_ok-play_run.ensures.legal) (all_begun (outputs_of asked p h) b d c.in_ok-play_run.ensures.whole.whole)
     c.in_ok-play_run.ensures.whole.others (ran_one tt b d c.in_ok-play_run.ensures.behaves)
 
-pub returns : goal.returns
-returns g c =
+pub returns-clause-answers : goal.returns-clause-answers
+returns-clause-answers g c =
     let a = g.F.Shelf.shelved c.args.shelf.now in
     let b = g.F.Shelf.shelved c.read_plan.new.shelf in
     let d = g.F.Shelf.shelved c.play_run.new.shelf in
@@ -128,3 +129,21 @@ returns g c =
           makes),
       refl,
     ) (omega arith) c.in_ok-play_run.ensures.whole.others (ran_one tt b d c.in_ok-play_run.ensures.behaves)
+
+pub returns-in_err-plan-clause-gated : goal.returns-in_err-plan-clause-gated
+returns-in_err-plan-clause-gated g c = none_gated (g.G.Gate.told c.args.gate.now) c.args.history.now c.requires.empty
+
+pub returns-in_err-counts-clause-gated : goal.returns-in_err-counts-clause-gated
+returns-in_err-counts-clause-gated g c = none_gated (g.G.Gate.told c.args.gate.now) c.args.history.now c.requires.empty
+
+pub returns-in_err-machine-clause-gated : goal.returns-in_err-machine-clause-gated
+returns-in_err-machine-clause-gated g c = none_gated (g.G.Gate.told c.args.gate.now) c.args.history.now c.requires.empty
+
+pub returns-in_err-play_run-clause-gated : goal.returns-in_err-play_run-clause-gated
+returns-in_err-play_run-clause-gated g c = c.play_run.ensures.gated
+
+pub returns-in_err-done_line-clause-gated : goal.returns-in_err-done_line-clause-gated
+returns-in_err-done_line-clause-gated g c = c.play_run.ensures.gated
+
+pub returns-clause-gated : goal.returns-clause-gated
+returns-clause-gated g c = c.play_run.ensures.gated

@@ -13,6 +13,7 @@ use Rattle.viz_run.proofs.Exits.{memory_at, refused_at, cut_behind, memory_behin
 use Rattle.viz_run.proofs.Fitting.{some_named, files_fit, sides_fit, names_differ}
 use Rattle.viz_run.proofs.Opened.{its_plan, its_world, of_its_plan}
 use Rattle.viz_run.proofs.Stepping.{all_begun, went_through}
+use Rattle.viz_run.proofs.Gating.{none_gated}
 use Rattle.viz_run.proofs.step.step.Goals as goal
 
 pub size_of-size-requires : goal.size_of-size-requires
@@ -45,22 +46,22 @@ play-requires-clause-named g c = λ _ _.
 pub play-requires-clause-apart : goal.play-requires-clause-apart
 play-requires-clause-apart g c = λ _ _. names_differ _ _ _ _ _ _ c.requires.fits
 
-pub returns-in_err-plan : goal.returns-in_err-plan
-returns-in_err-plan g c =
+pub returns-in_err-plan-clause-answers : goal.returns-in_err-plan-clause-answers
+returns-in_err-plan-clause-answers g c =
     let a = g.F.Shelf.shelved c.args.shelf.now in
     let w = c.args.words.now in
     refused_at (command_of w) c.args.history.now a _ c.args.steps.now c.from_residual.result _ c.from_residual.ensures.1 c.in_err-plan.ensures.words
     (λ x at. step_refused w.width w.height w.schedule.now w.frames.now w.log.now (texts w.files.now) _ a c.size_of-size.ensures.size x
     (c.in_err-plan.ensures.input x at)) c.requires.empty c.in_err-plan.ensures.files c.in_err-plan.ensures.behaves
 
-pub returns-in_err-machine : goal.returns-in_err-machine
-returns-in_err-machine g c =
+pub returns-in_err-machine-clause-answers : goal.returns-in_err-machine-clause-answers
+returns-in_err-machine-clause-answers g c =
     let a = g.F.Shelf.shelved c.args.shelf.now in
     memory_at (command_of c.args.words.now) c.args.history.now a _ c.args.steps.now c.from_residual-in_err-machine.result
     c.from_residual-in_err-machine.ensures.1 c.requires.empty c.admit.ensures.files (went_through c.in_ok-plan.field-0 a _ c.in_ok-plan.ensures.behaves)
 
-pub returns-in_err-play : goal.returns-in_err-play
-returns-in_err-play g c =
+pub returns-in_err-play-clause-answers : goal.returns-in_err-play-clause-answers
+returns-in_err-play-clause-answers g c =
     let a = g.F.Shelf.shelved c.args.shelf.now in
     let b = g.F.Shelf.shelved c.admit.new.shelf in
     let w = c.args.words.now in
@@ -75,8 +76,8 @@ returns-in_err-play g c =
     (made_front asked got.0 _ _ makes _ c.in_err-play.ensures.front) c.in_err-play.ensures.begun.begun c.in_err-play.ensures.begun.others
     c.in_err-play.ensures.behaves
 
-pub returns-in_err-done_line : goal.returns-in_err-done_line
-returns-in_err-done_line g c =
+pub returns-in_err-done_line-clause-answers : goal.returns-in_err-done_line-clause-answers
+returns-in_err-done_line-clause-answers g c =
     let a = g.F.Shelf.shelved c.args.shelf.now in
     let b = g.F.Shelf.shelved c.admit.new.shelf in
     let d = g.F.Shelf.shelved c.play.new.shelf in
@@ -93,8 +94,8 @@ returns-in_err-done_line g c =
     (made_front asked got.0 p _ makes h (all_played p _ h c.in_ok-play.ensures.history)) (all_begun (outputs_of asked p h) b d c.in_ok-play.ensures.whole.whole)
     c.in_ok-play.ensures.whole.others (ran_one tt b d c.in_ok-play.ensures.behaves)
 
-pub returns : goal.returns
-returns g c =
+pub returns-clause-answers : goal.returns-clause-answers
+returns-clause-answers g c =
     let a = g.F.Shelf.shelved c.args.shelf.now in
     let b = g.F.Shelf.shelved c.admit.new.shelf in
     let d = g.F.Shelf.shelved c.play.new.shelf in
@@ -114,3 +115,18 @@ returns g c =
           makes.0),
       refl,
     ) (omega arith) c.in_ok-play.ensures.whole.others (ran_one tt b d c.in_ok-play.ensures.behaves)
+
+pub returns-in_err-plan-clause-gated : goal.returns-in_err-plan-clause-gated
+returns-in_err-plan-clause-gated g c = none_gated (g.G.Gate.told c.args.gate.now) c.args.history.now c.requires.empty
+
+pub returns-in_err-machine-clause-gated : goal.returns-in_err-machine-clause-gated
+returns-in_err-machine-clause-gated g c = none_gated (g.G.Gate.told c.args.gate.now) c.args.history.now c.requires.empty
+
+pub returns-in_err-play-clause-gated : goal.returns-in_err-play-clause-gated
+returns-in_err-play-clause-gated g c = c.play.ensures.gated
+
+pub returns-in_err-done_line-clause-gated : goal.returns-in_err-done_line-clause-gated
+returns-in_err-done_line-clause-gated g c = c.play.ensures.gated
+
+pub returns-clause-gated : goal.returns-clause-gated
+returns-clause-gated g c = c.play.ensures.gated

@@ -19,6 +19,7 @@ use Rattle.viz_run.proofs.Fitting.{some_named, turns_sides_fit, turns_files_fit}
 use Rattle.viz_run.proofs.Opened.{its_plan, its_world, of_its_plan}
 use Rattle.viz_run.proofs.Performing.{behaves_for}
 use Rattle.viz_run.proofs.Stepping.{went_through}
+use Rattle.viz_run.proofs.Gating.{none_gated, turns_gated}
 use Rattle.viz_run.proofs.turns.turns.Goals as goal
 
 pub size_of-size-requires : goal.size_of-size-requires
@@ -46,8 +47,8 @@ play_turns-requires-clause-counts g c =
     λ _ _. c.deref.ensures.value
     ∙ (c.in_ok-counts.ensures.counts ∙ (ap counts_of c.files.ensures.value ∙ sym (ap (λ (p : Plan). message_counts p) opened)))
 
-pub returns-in_err-plan : goal.returns-in_err-plan
-returns-in_err-plan g c = λ steps.
+pub returns-in_err-plan-clause-answers : goal.returns-in_err-plan-clause-answers
+returns-in_err-plan-clause-answers g c = λ steps.
     let a = g.F.Shelf.shelved c.args.shelf.now in
     let w = c.args.words.now in
     refused_at (command_of w) c.args.history.now a _ steps c.from_residual.result _ c.from_residual.ensures.1 c.in_err-plan.ensures.words
@@ -55,20 +56,20 @@ returns-in_err-plan g c = λ steps.
     (c.in_err-plan.ensures.input x at)) c.requires.empty c.in_err-plan.ensures.files
     (behaves_for _ a _ (λ missing. misses_left (texts w.files.now) _ a missing) c.in_err-plan.ensures.behaves)
 
-pub returns-in_err-counts : goal.returns-in_err-counts
-returns-in_err-counts g c = λ steps.
+pub returns-in_err-counts-clause-answers : goal.returns-in_err-counts-clause-answers
+returns-in_err-counts-clause-answers g c = λ steps.
     let a = g.F.Shelf.shelved c.args.shelf.now in
     memory_at (command_of c.args.words.now) c.args.history.now a _ steps c.from_residual-in_err-counts.result c.from_residual-in_err-counts.ensures.1
     c.requires.empty c.read_plan.ensures.files (went_through c.in_ok-plan.plan a _ c.in_ok-plan.ensures.behaves)
 
-pub returns-in_err-machine : goal.returns-in_err-machine
-returns-in_err-machine g c = λ steps.
+pub returns-in_err-machine-clause-answers : goal.returns-in_err-machine-clause-answers
+returns-in_err-machine-clause-answers g c = λ steps.
     let a = g.F.Shelf.shelved c.args.shelf.now in
     memory_at (command_of c.args.words.now) c.args.history.now a _ steps c.from_residual-in_err-machine.result c.from_residual-in_err-machine.ensures.1
     c.requires.empty c.read_plan.ensures.files (went_through c.in_ok-plan.plan a _ c.in_ok-plan.ensures.behaves)
 
-pub returns-in_err-play_turns : goal.returns-in_err-play_turns
-returns-in_err-play_turns g c = λ steps.
+pub returns-in_err-play_turns-clause-answers : goal.returns-in_err-play_turns-clause-answers
+returns-in_err-play_turns-clause-answers g c = λ steps.
     let a = g.F.Shelf.shelved c.args.shelf.now in
     let b = g.F.Shelf.shelved c.read_plan.new.shelf in
     let asked = command_of c.args.words.now in
@@ -81,8 +82,8 @@ returns-in_err-play_turns g c = λ steps.
     c.in_ok-machine.machine.plan makes c.from_residual-in_err-play_turns.result c.from_residual-in_err-play_turns.ensures.1
     (subst (λ (x : Plan). Legal x h) makes c.play_turns.ensures.legal) tt (none_kept_out b) (ran_none b)
 
-pub returns-in_err-done_line : goal.returns-in_err-done_line
-returns-in_err-done_line g c = λ steps.
+pub returns-in_err-done_line-clause-answers : goal.returns-in_err-done_line-clause-answers
+returns-in_err-done_line-clause-answers g c = λ steps.
     let a = g.F.Shelf.shelved c.args.shelf.now in
     let b = g.F.Shelf.shelved c.read_plan.new.shelf in
     let asked = command_of c.args.words.now in
@@ -95,8 +96,8 @@ returns-in_err-done_line g c = λ steps.
     c.in_ok-machine.machine.plan makes c.from_residual-in_err-done_line.result c.from_residual-in_err-done_line.ensures.1
     (subst (λ (x : Plan). Legal x h) makes c.play_turns.ensures.legal) tt (none_kept_out b) (ran_none b)
 
-pub returns : goal.returns
-returns g c = λ steps.
+pub returns-clause-answers : goal.returns-clause-answers
+returns-clause-answers g c = λ steps.
     let a = g.F.Shelf.shelved c.args.shelf.now in
     let b = g.F.Shelf.shelved c.read_plan.new.shelf in
     let w = c.args.words.now in
@@ -111,3 +112,21 @@ returns g c = λ steps.
     c.in_ok-play_turns.ensures.turns.legal (omega arith) (subst (λ (x : Plan). IsTurns x w.ticks h) makes c.in_ok-play_turns.ensures.turns) tt (omega arith)
     (c.in_ok-done_line.ensures ∙ ap (λ (xs : List Entry). done_text (length xs) (drawn_count xs)) c.as_slice.ensures, refl) (omega arith)
     (none_kept_out b) (ran_none b)
+
+pub returns-in_err-plan-clause-gated : goal.returns-in_err-plan-clause-gated
+returns-in_err-plan-clause-gated g c = none_gated (g.G.Gate.told c.args.gate.now) c.args.history.now c.requires.empty
+
+pub returns-in_err-counts-clause-gated : goal.returns-in_err-counts-clause-gated
+returns-in_err-counts-clause-gated g c = none_gated (g.G.Gate.told c.args.gate.now) c.args.history.now c.requires.empty
+
+pub returns-in_err-machine-clause-gated : goal.returns-in_err-machine-clause-gated
+returns-in_err-machine-clause-gated g c = none_gated (g.G.Gate.told c.args.gate.now) c.args.history.now c.requires.empty
+
+pub returns-in_err-play_turns-clause-gated : goal.returns-in_err-play_turns-clause-gated
+returns-in_err-play_turns-clause-gated g c = turns_gated (g.G.Gate.told c.args.gate.now) c.in_ok-machine.machine.plan c.play_turns.new.history c.play_turns.ensures.legal c.play_turns.ensures.gated
+
+pub returns-in_err-done_line-clause-gated : goal.returns-in_err-done_line-clause-gated
+returns-in_err-done_line-clause-gated g c = turns_gated (g.G.Gate.told c.args.gate.now) c.in_ok-machine.machine.plan c.play_turns.new.history c.play_turns.ensures.legal c.play_turns.ensures.gated
+
+pub returns-clause-gated : goal.returns-clause-gated
+returns-clause-gated g c = turns_gated (g.G.Gate.told c.args.gate.now) c.in_ok-machine.machine.plan c.play_turns.new.history c.play_turns.ensures.legal c.play_turns.ensures.gated

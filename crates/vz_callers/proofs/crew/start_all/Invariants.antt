@@ -7,8 +7,8 @@ use Rattle.vz_callers.proofs.crew.start_all.Given as goal
 abbrev pub invariant-loop-pass : goal.invariant-loop-pass
 invariant-loop-pass g l = record {
   numbers : numbers_of l.passes.items ++ numbers_at_work l.started.items ≡ numbers_of l.fn.passes.items;
-  waiting : (p : Plan) → IsCrew l.hub.id p l.messages l.fn.passes.items → All (λ t. HasCalled l.hub.id p t 0) l.passes.items;
-  going : (p : Plan) → IsCrew l.hub.id p l.messages l.fn.passes.items → All (IsAtWork l.hub.id p) l.started.items;
+  waiting : (p : Plan) → IsCrew (g.G.Gate.told l.gate) l.hub.id p l.messages l.fn.passes.items → All (λ t. HasCalled (g.G.Gate.told l.gate) l.hub.id p t 0) l.passes.items;
+  going : (p : Plan) → IsCrew (g.G.Gate.told l.gate) l.hub.id p l.messages l.fn.passes.items → All (IsAtWork g.G.Gate.told l.gate l.hub.id p) l.started.items;
   room : vec_len l.started + vec_len l.passes ≤ vec_capacity l.started;
   count : vec_len l.started + vec_len l.passes ≡ vec_len l.fn.passes;
   same : vec_capacity l.passes ≡ vec_capacity l.initial.passes;

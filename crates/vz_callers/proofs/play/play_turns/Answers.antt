@@ -1,4 +1,4 @@
-use Rattle.vz_callers.proofs.Played.{none_legal}
+use Rattle.vz_callers.proofs.Played.{none_legal, none_told}
 use Rattle.vz_callers.proofs.play.play_turns.Goals as goal
 
 pub returns-in_err-opened-clause-legal : goal.returns-in_err-opened-clause-legal
@@ -24,3 +24,11 @@ pub returns-clause-legal : goal.returns-clause-legal
 returns-clause-legal g c =
     let e = c.in_ok-opened.ensures in
     c.play_opened-machine.ensures.legal (g.M.Machine.state c.args.machine).plan (record { counts = c.requires.counts; callers = e.callers; passes = e.passes; display = e.display })
+
+pub returns-in_err-opened-clause-gated : goal.returns-in_err-opened-clause-gated
+returns-in_err-opened-clause-gated g c = none_told (g.G.Gate.told c.args.gate.now) c.args.history.now c.requires.empty
+
+pub returns-clause-gated : goal.returns-clause-gated
+returns-clause-gated g c =
+    let e = c.in_ok-opened.ensures in
+    c.play_opened-machine.ensures.gated (g.M.Machine.state c.args.machine).plan (record { counts = c.requires.counts; callers = e.callers; passes = e.passes; display = e.display })

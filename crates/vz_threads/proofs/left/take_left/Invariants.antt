@@ -5,6 +5,6 @@ use Rattle.vz_threads.proofs.left.take_left.Given as goal
 
 abbrev pub invariant-loop-end : goal.invariant-loop-end
 invariant-loop-end g l = record {
-  works : CrewWorksOn l.fn.ends.items l.end-items;
+  works : CrewWorksOn (g.G.Gate.told l.gate) l.fn.ends.items l.end-items;
   taken : (k : ℕ) (d : Owner Totals) → k < l.end-index → HasTakenAll l.messages (get_or l.end-items k d);
 }

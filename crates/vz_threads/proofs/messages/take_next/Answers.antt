@@ -1,15 +1,13 @@
-use Rattle.std.proofs.Common.{◌≡◌, ◌+◌}
-use Rattle.vz_threads.specs.Crews.{WorksOn}
-use Rattle.vz_threads.proofs.{Working.works_did, messages.take_next.Goals.In-Did, messages.take_next.Given.Over}
+use Rattle.std.proofs.Common.{ℕ, ◌+◌, ◌≤◌, ap, arith}
+use Rattle.vz_desk.specs.{declared.totals.Totals.Totals, Owners.Owner}
+use Rattle.vz_threads.specs.{Crews.WorksOn, Told.anything}
+use Rattle.vz_threads.proofs.{Ends.at_both, Working.works_gated}
 use Rattle.vz_threads.proofs.messages.take_next.Goals as goal
 
-did : (g : Over) (c : In-Did g) → WorksOn c.args.end.now c.client-answer.new.end × (c.client-answer.new.end.totals.taken ≡ c.args.end.now.totals.taken + 1)
-did g c =
-    works_did c.args.desk.now.id c.args.count c.args.end.now c.client-answer.new.end c.client-answer.result c.in-Ok.made c.in-Did.field-0 c.requires.may c.requires.left
-    c.client-answer.ensures.same c.client-answer.ensures.ok c.client-answer.ensures.waited c.in-Ok.is c.in-Did.is c.client.ensures.stands
-
-pub returns-in-Did-clause-works : goal.returns-in-Did-clause-works
-returns-in-Did-clause-works g c = (did g c).0
-
-pub returns-in-Did-clause-one : goal.returns-in-Did-clause-one
-returns-in-Did-clause-one g c = (did g c).1
+pub returns-clause-works : goal.returns-clause-works
+returns-clause-works g c =
+    let r = c.gated.ensures.answer in
+    let on = at_both (WorksOn anything) r.shown.now r.left.now c.args.end.now c.gated.new.state r.shows r.leaves r.met.0 in
+    let most = at_both (λ (a b : Owner Totals). b.totals.taken ≤ a.totals.taken + 1) r.shown.now r.left.now c.args.end.now c.gated.new.state r.shows r.leaves r.met.1.1 in
+    works_gated (g.G.Gate.told c.args.gate.now) c.args.desk.now.id c.args.count c.args.end.now c.gated.new.state c.client.result _ c.requires.may c.requires.left (omega (arith, c.ranges.count)) on most
+    c.client.ensures.number (ap (λ (n : ℕ). n + 1) c.calls.ensures) c.gated.ensures.told

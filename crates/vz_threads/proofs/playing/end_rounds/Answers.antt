@@ -20,3 +20,12 @@ pub returns-clause-ended : goal.returns-clause-ended
 returns-clause-ended g c = λ k paced start n p.
     subst (λ (s : Outlook). HasEnded k paced start s c.tell_over.new.d n) (sym c.close.ensures)
     (rounds_over k paced start (g.O.Outlet.stands c.args.outlet.now) c.args.d.now c.tell_over.new.d n p c.tell_over.ensures.same c.in-Ok.ensures.made)
+
+pub returns-in_default-clause-told : goal.returns-in_default-clause-told
+returns-in_default-clause-told g c = c.tell_over.ensures.told
+
+pub returns-then-is_cut-clause-told : goal.returns-then-is_cut-clause-told
+returns-then-is_cut-clause-told g c = c.tell_over.ensures.told
+
+pub returns-clause-told : goal.returns-clause-told
+returns-clause-told g c = c.tell_over.ensures.told

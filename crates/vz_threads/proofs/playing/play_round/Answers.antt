@@ -21,3 +21,12 @@ pub returns-clause-played : goal.returns-clause-played
 returns-clause-played g c = λ k start n p.
     c.in_ok-end_round.ensures.ended k start n
     (round_begun k c.args.paced start (g.O.Outlet.stands c.args.outlet.now) c.args.d.now c.open_round.new.d n p c.open_round.ensures.same c.in-Ok.ensures.made)
+
+pub returns-in_default-clause-told : goal.returns-in_default-clause-told
+returns-in_default-clause-told g c = c.open_round.ensures.told
+
+pub returns-in_err-end_round-clause-told : goal.returns-in_err-end_round-clause-told
+returns-in_err-end_round-clause-told g c = λ own. c.in_err-end_round.ensures.told (c.open_round.ensures.told own)
+
+pub returns-clause-told : goal.returns-clause-told
+returns-clause-told g c = λ own. c.in_ok-end_round.ensures.told (c.open_round.ensures.told own)

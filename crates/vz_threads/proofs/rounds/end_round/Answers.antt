@@ -1,6 +1,6 @@
 use Rattle.std.proofs.Common.{◌+◌, subst, sym}
 use Rattle.vz_threads.specs.{Outlets.Outlook, Rounds.HasPlayed, Rounds.IsCutFrom}
-use Rattle.vz_threads.proofs.{Ends.err_as, Rounding.cut_here, Rounding.paused_by, Rounding.round_ends, Rounding.cut_behind}
+use Rattle.vz_threads.proofs.{Ends.err_as, Rounding.cut_here, Rounding.paused_by, Rounding.round_ends, Rounding.cut_behind, Telling.none_told}
 use Rattle.vz_threads.proofs.rounds.end_round.Goals as goal
 
 pub returns-in_default-clause-cut : goal.returns-in_default-clause-cut
@@ -30,3 +30,12 @@ returns-clause-ended g c = λ k start n b.
     (round_ends k c.args.paced start was (g.O.Outlet.stands c.show_drawing.new.outlet) c.args.d.now c.pause.new.d c.show_drawing.new.d n b
     (paused_by k start was c.args.d.now c.pause.new.d b.history b.at c.pause.ensures.same c.pause.ensures.none c.args.paced c.in-Ok.ensures.calm c.pause.ensures.stays)
     (c.in_ok-show_drawing.ensures.shown k start))
+
+pub returns-in_default-clause-told : goal.returns-in_default-clause-told
+returns-in_default-clause-told g c = none_told _ _ _ c.pause.ensures.none
+
+pub returns-in_err-show_drawing-clause-told : goal.returns-in_err-show_drawing-clause-told
+returns-in_err-show_drawing-clause-told g c = λ own. c.in_err-show_drawing.ensures.told (none_told _ _ _ c.pause.ensures.none own)
+
+pub returns-clause-told : goal.returns-clause-told
+returns-clause-told g c = λ own. c.in_ok-show_drawing.ensures.told (none_told _ _ _ c.pause.ensures.none own)

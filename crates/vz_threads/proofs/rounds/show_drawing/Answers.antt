@@ -58,3 +58,6 @@ returns-in-Stopped-clause-cut g c = λ k start h at.
 pub returns-in_default-clause-cut : goal.returns-in_default-clause-cut
 returns-in_default-clause-cut g c = λ k start h at.
     (h, cut_here k start (g.O.Outlet.stands c.args.outlet.now) c.args.d.now c.ask_drawing.new.d h at c.ask_drawing.ensures.same c.in_default.ensures.none)
+
+pub returns-in-Drawn-clause-told : goal.returns-in-Drawn-clause-told
+returns-in-Drawn-clause-told g c = λ own. c.end_frame.ensures.told (c.ask_drawing.ensures.told own)

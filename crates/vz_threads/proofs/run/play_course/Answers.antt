@@ -1,8 +1,10 @@
-use Rattle.std.proofs.Common.{◌≡◌, ◌+◌, ◌∙◌, ap, sym, subst, IfOk, OnOk, OnErr}
+use Rattle.std.proofs.Common.{◌≡◌, [], ◌+◌, ◌∙◌, ap, sym, subst, IfOk, OnOk, OnErr}
 use Rattle.vz_outside.specs.Shelved.{Appends, AppendsFront}
 use Rattle.vz_rules.specs.{Plan.Plan, Plan.IsPlan, Step.Legal, Step.world, Frames.painted, Log.rest_of}
 use Rattle.vz_display.specs.Displayed.{display_at}
 use Rattle.vz_threads.specs.{Courses.IsRun, Courses.frames_of, Runs.EndsWithTail, Runs.WritesMore, Runs.WritesMoreFront, Tails.AllComeDue}
+use Rattle.vz_player.specs.Gated.{AreGated}
+use Rattle.vz_player.proofs.Telling.{gated_none, gated_then}
 use Rattle.vz_outside.proofs.Calls.{Ran}
 use Rattle.vz_threads.specs.Rounds.{Setup}
 use Rattle.vz_threads.proofs.Gathered.{legal_first}
@@ -33,7 +35,7 @@ finish_run-requires-clause-display g c = λ _ _.
     let k : Setup = record { plan = (g.M.Machine.state c.args.machine).plan; buffers = c.args.course.buffers } in
     let run = c.run_chosen-machine.ensures.run k (is_ready k _ (record { sides = c.requires.plan.sizes; size = c.requires.size; some = c.requires.from; opened = c.requires.open }) c.new-display.ensures.shown) c.in-Ok.ensures.opened in
     let e = c.run_chosen-machine.ensures.plan k c.in-Ok.ensures.opened in
-    let w = whole_of k _ _ _ _ _ _ _ run c.in-Ok-played.is in
+    let w = whole_of _ k _ _ _ _ _ _ _ run c.in-Ok-played.is in
     w.shown.display ∙ ap (λ (p : Plan). display_at p c.run_chosen-machine.result.history.list c.args.course.buffers) (sym e)
 
 pub finish_run-requires-clause-due : goal.finish_run-requires-clause-due
@@ -41,7 +43,7 @@ finish_run-requires-clause-due g c = λ _ _.
     let k : Setup = record { plan = (g.M.Machine.state c.args.machine).plan; buffers = c.args.course.buffers } in
     let run = c.run_chosen-machine.ensures.run k (is_ready k _ (record { sides = c.requires.plan.sizes; size = c.requires.size; some = c.requires.from; opened = c.requires.open }) c.new-display.ensures.shown) c.in-Ok.ensures.opened in
     let e = c.run_chosen-machine.ensures.plan k c.in-Ok.ensures.opened in
-    let w = whole_of k _ _ _ _ _ _ _ run c.in-Ok-played.is in
+    let w = whole_of _ k _ _ _ _ _ _ _ run c.in-Ok-played.is in
     subst (λ (p : Plan). AllComeDue (world p c.run_chosen-machine.result.history.list)) (sym e) (comes_due k _ _ _ _ _ (record { sides = c.requires.plan.sizes; size = c.requires.size; some = c.requires.from; opened = c.requires.open }) run.legal w c.requires.plan c.requires.rounds)
 
 pub finish_run-requires-clause-size : goal.finish_run-requires-clause-size
@@ -54,7 +56,7 @@ finish_run-requires-clause-open g c = λ _ _.
     let k : Setup = record { plan = (g.M.Machine.state c.args.machine).plan; buffers = c.args.course.buffers } in
     let run = c.run_chosen-machine.ensures.run k (is_ready k _ (record { sides = c.requires.plan.sizes; size = c.requires.size; some = c.requires.from; opened = c.requires.open }) c.new-display.ensures.shown) c.in-Ok.ensures.opened in
     let e = c.run_chosen-machine.ensures.plan k c.in-Ok.ensures.opened in
-    let w = whole_of k _ _ _ _ _ _ _ run c.in-Ok-played.is in
+    let w = whole_of _ k _ _ _ _ _ _ _ run c.in-Ok-played.is in
     open_still k _ _ _ _ _ (record { sides = c.requires.plan.sizes; size = c.requires.size; some = c.requires.from; opened = c.requires.open }) run.legal w
 
 pub returns-in-Ok-played-clause-run : goal.returns-in-Ok-played-clause-run
@@ -62,7 +64,7 @@ returns-in-Ok-played-clause-run g c =
     let k : Setup = record { plan = (g.M.Machine.state c.args.machine).plan; buffers = c.args.course.buffers } in
     let run = c.run_chosen-machine.ensures.run k (is_ready k _ (record { sides = c.requires.plan.sizes; size = c.requires.size; some = c.requires.from; opened = c.requires.open }) c.new-display.ensures.shown) c.in-Ok.ensures.opened in
     let e = c.run_chosen-machine.ensures.plan k c.in-Ok.ensures.opened in
-    let w = whole_of k _ _ _ _ _ _ _ run c.in-Ok-played.is in
+    let w = whole_of _ k _ _ _ _ _ _ _ run c.in-Ok-played.is in
     let good = subst (λ (p : Plan). Legal p c.finish_run.new.history) e c.finish_run.ensures.legal in
     ok_then c.finish_run.result (EndsWithTail k.plan c.run_chosen-machine.result.history.list c.finish_run.new.history) (IsRun k.plan c.args.course.rounds c.args.course.paced c.finish_run.new.history)
     (subst (λ (p : Plan). OnOk c.finish_run.result (EndsWithTail p c.run_chosen-machine.result.history.list c.finish_run.new.history)) e c.finish_run.ensures.tail)
@@ -80,7 +82,7 @@ returns-in-Ok-played-clause-written g c =
     let k : Setup = record { plan = (g.M.Machine.state c.args.machine).plan; buffers = c.args.course.buffers } in
     let run = c.run_chosen-machine.ensures.run k (is_ready k _ (record { sides = c.requires.plan.sizes; size = c.requires.size; some = c.requires.from; opened = c.requires.open }) c.new-display.ensures.shown) c.in-Ok.ensures.opened in
     let e = c.run_chosen-machine.ensures.plan k c.in-Ok.ensures.opened in
-    let w = whole_of k _ _ _ _ _ _ _ run c.in-Ok-played.is in
+    let w = whole_of _ k _ _ _ _ _ _ _ run c.in-Ok-played.is in
     (ok_both c.finish_run.result (Ran (g.F.Shelf.shelved c.run_chosen-machine.new.shelf) (g.F.Shelf.shelved c.finish_run.new.shelf)) (WritesMore k.plan k.buffers ((g.F.Shelf.shelved c.run_chosen-machine.new.shelf).name c.args.file.slot) c.run_chosen-machine.result.history.list c.finish_run.new.history (g.F.Shelf.shelved c.run_chosen-machine.new.shelf) (g.F.Shelf.shelved c.finish_run.new.shelf)) (Appends (frames_of k.plan c.finish_run.new.history k.buffers) ((g.F.Shelf.shelved c.args.shelf.now).name c.args.file.slot) (g.F.Shelf.shelved c.args.shelf.now) (g.F.Shelf.shelved c.finish_run.new.shelf))
     (ok_ran c.finish_run.result (g.F.Shelf.shelved c.run_chosen-machine.new.shelf) (g.F.Shelf.shelved c.finish_run.new.shelf) c.finish_run.ensures.behaves)
     (subst (λ (p : Plan). OnOk c.finish_run.result (WritesMore p k.buffers ((g.F.Shelf.shelved c.run_chosen-machine.new.shelf).name c.args.file.slot) c.run_chosen-machine.result.history.list c.finish_run.new.history (g.F.Shelf.shelved c.run_chosen-machine.new.shelf) (g.F.Shelf.shelved c.finish_run.new.shelf))) e c.finish_run.ensures.written)
@@ -91,7 +93,7 @@ returns-in-Ok-played-clause-counted g c =
     let k : Setup = record { plan = (g.M.Machine.state c.args.machine).plan; buffers = c.args.course.buffers } in
     let run = c.run_chosen-machine.ensures.run k (is_ready k _ (record { sides = c.requires.plan.sizes; size = c.requires.size; some = c.requires.from; opened = c.requires.open }) c.new-display.ensures.shown) c.in-Ok.ensures.opened in
     let e = c.run_chosen-machine.ensures.plan k c.in-Ok.ensures.opened in
-    let w = whole_of k _ _ _ _ _ _ _ run c.in-Ok-played.is in
+    let w = whole_of _ k _ _ _ _ _ _ _ run c.in-Ok-played.is in
     ok_then c.finish_run.result (c.finish_run.new.steps + painted k.plan c.run_chosen-machine.result.history.list k.buffers ≡ c.run_chosen-machine.new.steps + painted k.plan c.finish_run.new.history k.buffers) (c.finish_run.new.steps ≡ c.args.steps.now + painted k.plan c.finish_run.new.history k.buffers)
     (subst (λ (p : Plan). OnOk c.finish_run.result (c.finish_run.new.steps + painted p c.run_chosen-machine.result.history.list k.buffers ≡ c.run_chosen-machine.new.steps + painted p c.finish_run.new.history k.buffers)) e c.finish_run.ensures.counted)
     (λ is. all_counted k _ _ _ _ _ (record { sides = c.requires.plan.sizes; size = c.requires.size; some = c.requires.from; opened = c.requires.open }) run.legal w c.finish_run.new.history c.finish_run.new.steps is)
@@ -108,7 +110,7 @@ returns-in-Ok-played-clause-begun g c =
     let k : Setup = record { plan = (g.M.Machine.state c.args.machine).plan; buffers = c.args.course.buffers } in
     let run = c.run_chosen-machine.ensures.run k (is_ready k _ (record { sides = c.requires.plan.sizes; size = c.requires.size; some = c.requires.from; opened = c.requires.open }) c.new-display.ensures.shown) c.in-Ok.ensures.opened in
     let e = c.run_chosen-machine.ensures.plan k c.in-Ok.ensures.opened in
-    let w = whole_of k _ _ _ _ _ _ _ run c.in-Ok-played.is in
+    let w = whole_of _ k _ _ _ _ _ _ _ run c.in-Ok-played.is in
     (err_then c.finish_run.result (WritesMoreFront k.plan k.buffers ((g.F.Shelf.shelved c.run_chosen-machine.new.shelf).name c.args.file.slot) c.run_chosen-machine.result.history.list c.finish_run.new.history (g.F.Shelf.shelved c.run_chosen-machine.new.shelf) (g.F.Shelf.shelved c.finish_run.new.shelf)) (AppendsFront (frames_of k.plan c.finish_run.new.history k.buffers) ((g.F.Shelf.shelved c.args.shelf.now).name c.args.file.slot) (g.F.Shelf.shelved c.args.shelf.now) (g.F.Shelf.shelved c.finish_run.new.shelf))
     (subst (λ (p : Plan). OnErr c.finish_run.result (WritesMoreFront p k.buffers ((g.F.Shelf.shelved c.run_chosen-machine.new.shelf).name c.args.file.slot) c.run_chosen-machine.result.history.list c.finish_run.new.history (g.F.Shelf.shelved c.run_chosen-machine.new.shelf) (g.F.Shelf.shelved c.finish_run.new.shelf))) e c.finish_run.ensures.begun)
     (λ m. front_written k _ _ _ _ _ (record { sides = c.requires.plan.sizes; size = c.requires.size; some = c.requires.from; opened = c.requires.open }) run.legal w c.finish_run.new.history (g.F.Shelf.shelved c.finish_run.new.shelf) m))
@@ -118,7 +120,7 @@ returns-in-Ok-played-clause-others g c =
     let k : Setup = record { plan = (g.M.Machine.state c.args.machine).plan; buffers = c.args.course.buffers } in
     let run = c.run_chosen-machine.ensures.run k (is_ready k _ (record { sides = c.requires.plan.sizes; size = c.requires.size; some = c.requires.from; opened = c.requires.open }) c.new-display.ensures.shown) c.in-Ok.ensures.opened in
     let e = c.run_chosen-machine.ensures.plan k c.in-Ok.ensures.opened in
-    let w = whole_of k _ _ _ _ _ _ _ run c.in-Ok-played.is in
+    let w = whole_of _ k _ _ _ _ _ _ _ run c.in-Ok-played.is in
     (others_written k _ _ _ _ _ (record { sides = c.requires.plan.sizes; size = c.requires.size; some = c.requires.from; opened = c.requires.open }) run.legal w (g.F.Shelf.shelved c.finish_run.new.shelf) c.finish_run.ensures.others)
 
 pub returns-in-Ok-played-clause-behaves : goal.returns-in-Ok-played-clause-behaves
@@ -126,7 +128,7 @@ returns-in-Ok-played-clause-behaves g c =
     let k : Setup = record { plan = (g.M.Machine.state c.args.machine).plan; buffers = c.args.course.buffers } in
     let run = c.run_chosen-machine.ensures.run k (is_ready k _ (record { sides = c.requires.plan.sizes; size = c.requires.size; some = c.requires.from; opened = c.requires.open }) c.new-display.ensures.shown) c.in-Ok.ensures.opened in
     let e = c.run_chosen-machine.ensures.plan k c.in-Ok.ensures.opened in
-    let w = whole_of k _ _ _ _ _ _ _ run c.in-Ok-played.is in
+    let w = whole_of _ k _ _ _ _ _ _ _ run c.in-Ok-played.is in
     (behaves_then k _ _ _ _ _ (record { sides = c.requires.plan.sizes; size = c.requires.size; some = c.requires.from; opened = c.requires.open }) run.legal w c.finish_run.result (g.F.Shelf.shelved c.finish_run.new.shelf) c.finish_run.ensures.behaves)
 
 pub returns-in-Err-clause-legal : goal.returns-in-Err-clause-legal
@@ -139,19 +141,34 @@ pub returns-in-Err-clause-begun : goal.returns-in-Err-clause-begun
 returns-in-Err-clause-begun g c =
     let k : Setup = record { plan = (g.M.Machine.state c.args.machine).plan; buffers = c.args.course.buffers } in
     let run = c.run_chosen-machine.ensures.run k (is_ready k _ (record { sides = c.requires.plan.sizes; size = c.requires.size; some = c.requires.from; opened = c.requires.open }) c.new-display.ensures.shown) c.in-Ok.ensures.opened in
-    let cut = cut_of k _ _ _ _ _ _ _ run c.in-Err.is in
+    let cut = cut_of _ k _ _ _ _ _ _ _ run c.in-Err.is in
     (subst (λ l. AppendsFront (frames_of k.plan l k.buffers) ((g.F.Shelf.shelved c.args.shelf.now).name c.args.file.slot) (g.F.Shelf.shelved c.args.shelf.now) (g.F.Shelf.shelved c.run_chosen-machine.new.shelf)) (sym c.into_list.ensures) cut.begun)
 
 pub returns-in-Err-clause-others : goal.returns-in-Err-clause-others
 returns-in-Err-clause-others g c =
     let k : Setup = record { plan = (g.M.Machine.state c.args.machine).plan; buffers = c.args.course.buffers } in
     let run = c.run_chosen-machine.ensures.run k (is_ready k _ (record { sides = c.requires.plan.sizes; size = c.requires.size; some = c.requires.from; opened = c.requires.open }) c.new-display.ensures.shown) c.in-Ok.ensures.opened in
-    let cut = cut_of k _ _ _ _ _ _ _ run c.in-Err.is in
+    let cut = cut_of _ k _ _ _ _ _ _ _ run c.in-Err.is in
     cut.others
 
 pub returns-in-Err-clause-behaves : goal.returns-in-Err-clause-behaves
 returns-in-Err-clause-behaves g c =
     let k : Setup = record { plan = (g.M.Machine.state c.args.machine).plan; buffers = c.args.course.buffers } in
     let run = c.run_chosen-machine.ensures.run k (is_ready k _ (record { sides = c.requires.plan.sizes; size = c.requires.size; some = c.requires.from; opened = c.requires.open }) c.new-display.ensures.shown) c.in-Ok.ensures.opened in
-    let cut = cut_of k _ _ _ _ _ _ _ run c.in-Err.is in
+    let cut = cut_of _ k _ _ _ _ _ _ _ run c.in-Err.is in
     (cut_behaves c.in-Err.error (g.F.Shelf.shelved c.args.shelf.now) (g.F.Shelf.shelved c.run_chosen-machine.new.shelf) cut.behaves)
+
+pub returns-in_default-clause-gated : goal.returns-in_default-clause-gated
+returns-in_default-clause-gated g c = gated_none (g.G.Gate.told c.args.gate.now) [] c.args.history.now c.requires.empty
+
+pub returns-in-Ok-played-clause-gated : goal.returns-in-Ok-played-clause-gated
+returns-in-Ok-played-clause-gated g c =
+    let k : Setup = record { plan = (g.M.Machine.state c.args.machine).plan; buffers = c.args.course.buffers } in
+    let run = c.run_chosen-machine.ensures.run k (is_ready k _ (record { sides = c.requires.plan.sizes; size = c.requires.size; some = c.requires.from; opened = c.requires.open }) c.new-display.ensures.shown) c.in-Ok.ensures.opened in
+    gated_then (g.G.Gate.told c.args.gate.now) [] c.run_chosen-machine.result.history.list c.finish_run.new.history run.gated c.finish_run.ensures.gated
+
+pub returns-in-Err-clause-gated : goal.returns-in-Err-clause-gated
+returns-in-Err-clause-gated g c =
+    let k : Setup = record { plan = (g.M.Machine.state c.args.machine).plan; buffers = c.args.course.buffers } in
+    let run = c.run_chosen-machine.ensures.run k (is_ready k _ (record { sides = c.requires.plan.sizes; size = c.requires.size; some = c.requires.from; opened = c.requires.open }) c.new-display.ensures.shown) c.in-Ok.ensures.opened in
+    subst (AreGated (g.G.Gate.told c.args.gate.now)) (sym c.into_list.ensures) run.gated

@@ -12,7 +12,7 @@ play_joined-beside-requires-clause-room g c κs within =
 pub play_joined-beside-requires-clause-play : goal.play_joined-beside-requires-clause-play
 play_joined-beside-requires-clause-play g c κs within =
     let s = c.requires.opened in
-    can_play s.0 c.args.course.paced (g.O.Outlet.stands c.args.outlet) _ _ _ _ _ s.1 s.2
+    can_play _ s.0 c.args.course.paced (g.O.Outlet.stands c.args.outlet) _ _ _ _ _ s.1 s.2
 
 pub gather_run-requires-after_bounds : goal.gather_run-requires-after_bounds
 gather_run-requires-after_bounds g c κs within =

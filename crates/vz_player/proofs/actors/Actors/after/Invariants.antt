@@ -1,6 +1,6 @@
 use Rattle.std.proofs.Common.{take}
 use Rattle.vz_player.specs.declared.actors.TheConstants.{MOST_ACTORS}
-use Rattle.vz_player.proofs.Counting.{HasCounted}
+use Rattle.vz_player.specs.Played.{HasCounted}
 use Rattle.vz_player.proofs.actors.Actors.after.Given as goal
 
 -- the steps of the entries so far were counted

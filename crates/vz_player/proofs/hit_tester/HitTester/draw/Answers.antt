@@ -1,8 +1,10 @@
-use Rattle.std.proofs.Common.{subst, ap}
+use Rattle.std.proofs.Common.{refl, subst, ap, arith}
 use Rattle.vz_rules.specs.World.{Machine}
 use Rattle.vz_rules.specs.declared.entry.Event.TheVariants as event
 use Rattle.vz_player.specs.Tested.{Tested, IsTested}
 use Rattle.vz_player.proofs.Testing.{on_is, drawn_tested}
+use Rattle.vz_player.specs.declared.actors.TheConstants.{MOST_ACTORS, DISPLAY}
+use Rattle.vz_player.proofs.{Telling.turn_counts, Telling.turn_gated, Telling.unturned_gated}
 use Rattle.vz_player.proofs.hit_tester.HitTester.draw.Goals as goal
 
 pub invariant_of-self-2 : goal.invariant_of-self-2
@@ -10,17 +12,35 @@ invariant_of-self-2 g c =
     let m : Machine = g.M.Machine.state c.self.inside.machine in
     let n : Machine = g.M.Machine.state c.draw_gated.new.machine in
     let noted = c.self.inside.hit in
-    let is : IsTested m noted c.args.self.now = subst (IsTested m noted) c.self.view_is c.self.invariant in
-    let step = c.in_ok-entry.ensures in
-    drawn_tested m n noted c.in_ok-now.now c.hit_after-self-inside.result c.args.self.now _ c.self.inside.point c.in_ok-entry.entry is step.entry step.world
-    (ap (λ (t : Tested). t.point) c.self.view_is) c.in_ok-now.ensures c.hit_after-self-inside.ensures
-    (on_is m n noted c.args.self.now event.Draw c.in_ok-entry.entry c.self.inside.history.list c.reserve.new.self.list c.put.new.self.list c.self.inside.point is step.entry step.world c.self.view_is c.in_ok-reserve.ensures.list c.put.ensures.list)
+    let is : IsTested m noted c.args.self.now = subst (IsTested m noted) c.self.view_is c.self.invariant.0 in
+    let step = c.in_ok-entry.ensures in (
+      drawn_tested m n noted c.in_ok-now.now c.hit_after-self-inside.result c.args.self.now _ c.self.inside.point c.in_ok-entry.entry is step.entry step.world
+          (ap (λ (t : Tested). t.point) c.self.view_is) c.in_ok-now.ensures c.hit_after-self-inside.ensures
+          (on_is m n noted c.args.self.now event.Draw c.in_ok-entry.entry c.self.inside.history.list c.reserve.new.self.list c.put.new.self.list c.self.inside.point is step.entry step.world c.self.view_is c.in_ok-reserve.ensures.list c.put.ensures.list),
+      turn_counts _ _ MOST_ACTORS event.Draw DISPLAY c.self.invariant.1 c.in_ok-entry.ensures.entry c.in_ok-reserve.ensures.list c.put.ensures.list
+          (omega arith) refl _ c.count.ensures,
+    )
 
 pub returns-clause-taken : goal.returns-clause-taken
 returns-clause-taken g c =
     let m : Machine = g.M.Machine.state c.self.inside.machine in
     let n : Machine = g.M.Machine.state c.draw_gated.new.machine in
     let noted = c.self.inside.hit in
-    let is : IsTested m noted c.args.self.now = subst (IsTested m noted) c.self.view_is c.self.invariant in
+    let is : IsTested m noted c.args.self.now = subst (IsTested m noted) c.self.view_is c.self.invariant.0 in
     let step = c.in_ok-entry.ensures in
     on_is m n noted c.args.self.now event.Draw c.in_ok-entry.entry c.self.inside.history.list c.reserve.new.self.list c.put.new.self.list c.self.inside.point is step.entry step.world c.self.view_is c.in_ok-reserve.ensures.list c.put.ensures.list
+
+pub returns-in_err-reserve-clause-gated : goal.returns-in_err-reserve-clause-gated
+returns-in_err-reserve-clause-gated g c = unturned_gated (g.G.Gate.told c.args.gate.now) c.args.self.now.history c.in_err-reserve.ensures.list (ap (λ (t : Tested). t.history) c.self.view_is)
+
+pub returns-in_err-now-clause-gated : goal.returns-in_err-now-clause-gated
+returns-in_err-now-clause-gated g c = unturned_gated (g.G.Gate.told c.args.gate.now) c.args.self.now.history c.in_ok-reserve.ensures.list (ap (λ (t : Tested). t.history) c.self.view_is)
+
+pub returns-in_err-entry-clause-gated : goal.returns-in_err-entry-clause-gated
+returns-in_err-entry-clause-gated g c = unturned_gated (g.G.Gate.told c.args.gate.now) c.args.self.now.history c.in_ok-reserve.ensures.list (ap (λ (t : Tested). t.history) c.self.view_is)
+
+pub returns-clause-gated : goal.returns-clause-gated
+returns-clause-gated g c =
+    turn_gated _ _ MOST_ACTORS event.Draw DISPLAY c.self.invariant.1 c.in_ok-entry.ensures.entry c.in_ok-reserve.ensures.list c.put.ensures.list
+    (omega arith) refl (g.G.Gate.told c.args.gate.now) c.args.self.now.history c.next_turn-turn.result.actor c.next_turn-turn.result.number
+    (ap (λ (t : Tested). t.history) c.self.view_is) c.next_turn-turn.ensures.actor c.next_turn-turn.ensures.number c.in_ok-entry.ensures.told

@@ -1,8 +1,10 @@
-use Rattle.std.proofs.Common.{None, false, refl, ap, ◌∙◌, arith}
-use Rattle.vz_rules.specs.World.{Machine}
+use Rattle.std.proofs.Common.{None, false, refl, ap, sym, subst, ◌∙◌, arith}
+use Rattle.vz_rules.specs.{World.Machine, Plan.Plan, Step.NamesClient}
 use Rattle.vz_rules.specs.declared.entry.Event.TheVariants as event
 use Rattle.vz_player.specs.Played.{Played, StopsAt}
 use Rattle.vz_player.proofs.Playing.{on_err, unturned, turn_invariant, turn_taken, turn_written, turn_counted}
+use Rattle.vz_player.specs.declared.actors.TheConstants.{MOST_ACTORS}
+use Rattle.vz_player.proofs.{Counting.actor_within, Telling.turn_counts, Telling.turn_gated, Telling.unturned_gated}
 use Rattle.vz_player.proofs.player.Player.take_client.Goals as goal
 
 pub returns-in_err-reserve-clause-err : goal.returns-in_err-reserve-clause-err
@@ -18,28 +20,41 @@ returns-in_err-taken-clause-err g c =
 
 pub invariant_of-self-2 : goal.invariant_of-self-2
 invariant_of-self-2 g c =
-    let step = c.in_ok-taken.ensures in
-    turn_invariant (g.M.Machine.state c.self.inside.machine) (g.M.Machine.state c.client_gated.new.machine) (event.Client c.args.client) None
-    c.self.view_is c.self.invariant step.entry step.world step.picture c.in_ok-reserve.ensures.list c.put.ensures.list c.requires.going c.requires.named c.self.inside.display.shown c.self.inside.stopped (λ t. refl)
+    let step = c.in_ok-taken.ensures in (
+      turn_invariant (g.M.Machine.state c.self.inside.machine) (g.M.Machine.state c.client_gated.new.machine) (event.Client c.args.client) None
+          c.self.view_is c.self.invariant.0 step.entry step.world step.picture c.in_ok-reserve.ensures.list c.put.ensures.list c.requires.going c.requires.named c.self.inside.display.shown c.self.inside.stopped (λ t. refl),
+      turn_counts _ _ MOST_ACTORS (event.Client c.args.client) c.args.client c.self.invariant.1 c.in_ok-taken.ensures.entry c.in_ok-reserve.ensures.list c.put.ensures.list (actor_within (g.M.Machine.state c.self.inside.machine).plan (event.Client c.args.client) c.self.invariant.0.files (subst (λ (q : Plan). NamesClient q (event.Client c.args.client)) (sym (ap (λ (p : Played). p.plan) c.self.view_is)) c.requires.named)) refl _ c.count.ensures,
+    )
 
 pub returns-clause-taken : goal.returns-clause-taken
 returns-clause-taken g c =
     let step = c.in_ok-taken.ensures in
     turn_taken (g.M.Machine.state c.self.inside.machine) (g.M.Machine.state c.client_gated.new.machine) (event.Client c.args.client) None
-    c.self.view_is c.self.invariant step.entry step.world step.picture c.in_ok-reserve.ensures.list c.put.ensures.list c.requires.going c.self.inside.stopped
+    c.self.view_is c.self.invariant.0 step.entry step.world step.picture c.in_ok-reserve.ensures.list c.put.ensures.list c.requires.going c.self.inside.stopped
     (ap (λ (p : Played). p.stopped) c.self.view_is ∙ c.requires.going)
 
 pub returns-clause-written : goal.returns-clause-written
 returns-clause-written g c =
     let step = c.in_ok-taken.ensures in
     turn_written (g.M.Machine.state c.self.inside.machine) (g.M.Machine.state c.client_gated.new.machine) (event.Client c.args.client) None
-    c.self.view_is c.self.invariant step.entry step.world step.picture c.in_ok-reserve.ensures.list c.put.ensures.list c.requires.going c.self.inside.stopped
+    c.self.view_is c.self.invariant.0 step.entry step.world step.picture c.in_ok-reserve.ensures.list c.put.ensures.list c.requires.going c.self.inside.stopped
     (ap (λ (p : Played). p.stopped) c.self.view_is ∙ c.requires.going) false refl
 
 pub returns-clause-counted : goal.returns-clause-counted
 returns-clause-counted g c =
     let step = c.in_ok-taken.ensures in
     let same = turn_counted (g.M.Machine.state c.self.inside.machine) (g.M.Machine.state c.client_gated.new.machine) (event.Client c.args.client) None
-    c.self.view_is c.self.invariant step.entry step.world step.picture c.in_ok-reserve.ensures.list c.put.ensures.list c.requires.going c.self.inside.stopped
+    c.self.view_is c.self.invariant.0 step.entry step.world step.picture c.in_ok-reserve.ensures.list c.put.ensures.list c.requires.going c.self.inside.stopped
     (ap (λ (p : Played). p.stopped) c.self.view_is ∙ c.requires.going) 0 0 refl in
     omega (arith, same)
+
+pub returns-in_err-reserve-clause-gated : goal.returns-in_err-reserve-clause-gated
+returns-in_err-reserve-clause-gated g c = unturned_gated (g.G.Gate.told c.args.gate.now) c.args.self.now.history c.in_err-reserve.ensures.list (ap (λ (p : Played). p.history) c.self.view_is)
+
+pub returns-in_err-taken-clause-gated : goal.returns-in_err-taken-clause-gated
+returns-in_err-taken-clause-gated g c = unturned_gated (g.G.Gate.told c.args.gate.now) c.args.self.now.history c.in_ok-reserve.ensures.list (ap (λ (p : Played). p.history) c.self.view_is)
+
+pub returns-clause-gated : goal.returns-clause-gated
+returns-clause-gated g c =
+    turn_gated _ _ MOST_ACTORS (event.Client c.args.client) c.args.client c.self.invariant.1 c.in_ok-taken.ensures.entry c.in_ok-reserve.ensures.list c.put.ensures.list (actor_within (g.M.Machine.state c.self.inside.machine).plan (event.Client c.args.client) c.self.invariant.0.files (subst (λ (q : Plan). NamesClient q (event.Client c.args.client)) (sym (ap (λ (p : Played). p.plan) c.self.view_is)) c.requires.named)) refl (g.G.Gate.told c.args.gate.now) c.args.self.now.history c.next_turn-turn.result.actor c.next_turn-turn.result.number
+    (ap (λ (p : Played). p.history) c.self.view_is) c.next_turn-turn.ensures.actor c.next_turn-turn.ensures.number c.in_ok-taken.ensures.told
