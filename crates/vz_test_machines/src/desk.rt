@@ -1,14 +1,19 @@
-//! A desk over the plain machine, on one thread: a client that does not wait, a display that calls
+//! A desk over each machine, on one thread: a client that does not wait, a display that calls
 //! Done with nothing to show, and a stop, after which nobody waits.
-ghost use Rattle.std.specs.Prelude.{◌≡◌, false};
+ghost use Rattle.std.specs.Prelude.{◌≡◌, false, length, IfOk};
+ghost use Rattle.vz_rules.specs.World.{opening};
 
 use crate::row::plan_of;
+use std::alloc::Global;
+use std::process::Abort;
 use std::sync::Wait;
 use std::test::Fail;
 use vz_base::Memory;
 use vz_desk::{Answer, Desk, DisplayEnd, End, Gathered};
 use vz_frame::Message;
 use vz_machine::Machine;
+use vz_manager::Manager;
+use vz_rules::Plan;
 use vz_slow::PlainMachine;
 
 /// The reasons of two stops.
@@ -90,22 +95,52 @@ where
     display && is_stopped(&tried) && is_stopped(&waited)
 }
 
-#[test]
-fn a_desk_is_tried_and_stopped(rt: HostRuntime) -> Result<(), Fail> {
-    let messages = Vec::from_array(rt.alloc(), [Message::Await, Message::Await])?;
-    let plan = plan_of(rt.alloc(), messages)?;
-    let machine = PlainMachine::new(rt.alloc(), &plan);
+/// Whether the calls of a desk over a machine tell what they must.
+fn is_tried_and_stopped<M: Machine + Send + Drop, R: Wait + AllocGlobal + Abort>(
+    rt: &R,
+    machine: M,
+) -> bool
+where
+    M::Picture: Send,
+    requires opening { (M.state machine).world ≡ opening (M.state machine).plan }
+    requires one { length (M.state machine).plan.files ≡ 1 }
+{
     let Ok((desk, mut ends, mut display)) = Desk::open(rt.alloc(), machine, 1) else {
-        panic!(&rt; "memory")
+        return false;
     };
     let mut end = ends.pop().unwrap();
-    let tried = tries(&rt, &desk, &mut end, &mut display);
-    assert!(&rt; !display.in_flight());
-    let stopped = stops(&rt, &desk, &mut end, &mut display);
-    assert!(&rt; !display.in_flight());
+    let tried = tries(rt, &desk, &mut end, &mut display);
+    assert!(rt; !display.in_flight());
+    let stopped = stops(rt, &desk, &mut end, &mut display);
+    assert!(rt; !display.in_flight());
     ends.push_reserved(end);
     let Gathered { machine, history } = desk.gather(ends, display, None);
     drop(machine);
-    assert!(&rt; tried && stopped && history.as_slice().len() == 4);
+    tried & stopped & (history.as_slice().len() == 4)
+}
+
+/// The plan of one client that waits twice.
+fn waits_twice(alloc: Global) -> Result<Plan, Fail>
+    ensures { IfOk result (λ p. length p.files ≡ 1) }
+{
+    let messages = Vec::from_array(alloc, [Message::Await, Message::Await])?;
+    let plan = plan_of(alloc, messages)?;
+    Ok(plan)
+}
+
+#[test]
+fn a_desk_is_tried_and_stopped(rt: HostRuntime) -> Result<(), Fail> {
+    let plan = waits_twice(rt.alloc())?;
+    let machine = PlainMachine::new(rt.alloc(), &plan);
+    assert!(&rt; is_tried_and_stopped(&rt, machine));
+    Ok(())
+}
+
+#[test]
+fn a_desk_over_the_fast_machine_is_tried_and_stopped(rt: HostRuntime) -> Result<(), Fail> {
+    let Ok(machine) = Manager::open(rt.alloc(), waits_twice(rt.alloc())?) else {
+        panic!(&rt; "memory")
+    };
+    assert!(&rt; is_tried_and_stopped(&rt, machine));
     Ok(())
 }

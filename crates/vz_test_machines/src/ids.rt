@@ -13,3 +13,23 @@ fn a_child_runs_out_of_numbers(rt: HostRuntime) {
     let is_spent = child.next().is_err();
     assert!(rt; is_spent && child.current() == last);
 }
+
+#[test]
+fn a_child_adopts_a_later_parent_number(rt: HostRuntime) {
+    let first = id_of(3, 7);
+    let mut child = ChildAllocator::new(first);
+    let older = child.adopt(id_of(2, 1));
+    let stays = child.current() == first;
+    let newer = child.adopt(id_of(4, 1));
+    let adopts = child.current() == id_of(4, 7);
+    assert!(rt; !older && stays && newer && adopts);
+}
+
+/// An id with these numbers, all of one token.
+fn id_of(parent: u32, child: u32) -> LocalSurfaceId {
+    LocalSurfaceId {
+        parent,
+        child,
+        token: EmbedToken(1),
+    }
+}

@@ -1,17 +1,17 @@
-//! A gate at which two clients meet.
+//! A gate at which two clients and the display meet.
 use crate::call::status_through;
 use crate::gate::TestGate;
 use std::sync::atomic::{AtomicBool, Ordering};
 use std::thread;
 
-/// How often a client yields at most while it waits for the other one.
+/// How often a thread yields at most while it waits for another one.
 const MOST_TURNS: u32 = 100_000;
 
 /// A `run` of two files.
-const RUN: &str = "run 4 2 0 f l a b";
+const RUN: &str = "run 4 2 1 f l a b";
 
 /// The `turns` of two files.
-const TURNS: &str = "turns 4 2 0 a b";
+const TURNS: &str = "turns 4 2 1 a b";
 
 /// The file of client 1, with the sink (1, 1) and one message, a Reclaim.
 const FIRST: [u8; 19] = [
@@ -24,12 +24,12 @@ const SECOND: [u8; 19] = [
 ];
 
 /// A gate at which the first step of client 1 waits until that of client 2 has begun, and the other
-/// way round.
+/// way round, and the first step of the display waits for both.
 #[derive(Drop)]
 pub struct MeetingGate {
     first_came: AtomicBool,
     second_came: AtomicBool,
-    /// A client waited in vain.
+    /// A thread waited in vain.
     missed: AtomicBool,
 }
 
@@ -48,9 +48,10 @@ impl MeetingGate {
         both && !came(&self.missed)
     }
 
-    /// Takes a call before a step: the first step of each client is where it waits.
+    /// Takes a call before a step: the first step of each is where it waits.
     pub fn before(&self, actor: u32, turn: u64) {
         match (actor, turn) {
+            (0, 1) => self.wait_for_both(),
             (1, 1) => self.meet(&self.first_came, &self.second_came),
             (2, 1) => self.meet(&self.second_came, &self.first_came),
             _ => {}
@@ -60,8 +61,19 @@ impl MeetingGate {
     /// Tells that a client came, and waits for the other one.
     fn meet(&self, own: &AtomicBool, other: &AtomicBool) {
         own.store(true, Ordering::SeqCst);
+        self.wait_for(other);
+    }
+
+    /// Waits for both clients.
+    fn wait_for_both(&self) {
+        self.wait_for(&self.first_came);
+        self.wait_for(&self.second_came);
+    }
+
+    /// Waits until a mark is set.
+    fn wait_for(&self, mark: &AtomicBool) {
         for _ in 0..MOST_TURNS {
-            if came(other) {
+            if came(mark) {
                 return;
             }
             thread::yield_now();

@@ -1,10 +1,15 @@
 //! A gate that knows which calls must come.
 use crate::call::status_through;
 use crate::gate::{Side, TestGate};
+use std::sync::Wait;
 use std::sync::atomic::{AtomicBool, AtomicUsize, Ordering};
+use std::thread::Threads;
 
 /// A `step` on a file without a message.
-const LINE: &str = "step 4 2 s f l a";
+const STEP: &str = "step 4 2 s f l a";
+
+/// A `hit` on the same files.
+const HIT: &str = "hit 4 2 s 1 1 a";
 
 /// The file of a client without a message: the magic, the version, the sink (1, 1) and the count.
 const NO_MESSAGE: [u8; 18] = [
@@ -57,10 +62,20 @@ impl OrderGate {
     }
 }
 
-#[test]
-fn the_gate_is_round_each_step(rt: HostRuntime) {
+/// Whether a command on the schedule and the file ends well, and tells the gate exactly what is due.
+fn tells_what_is_due<R: Threads + Wait + AllocGlobal + Sync>(rt: &R, line: &str) -> bool {
     let files = [("s", SCHEDULE.as_slice()), ("a", NO_MESSAGE.as_slice())];
     let gate = TestGate::Order(OrderGate::new());
-    let status = status_through(&rt, LINE, files.as_slice(), &gate);
-    assert!(rt; status == Some(0) && gate.is_content());
+    let status = status_through(rt, line, files.as_slice(), &gate);
+    status == Some(0) && gate.is_content()
+}
+
+#[test]
+fn the_gate_is_round_each_step(rt: HostRuntime) {
+    assert!(rt; tells_what_is_due(&rt, STEP));
+}
+
+#[test]
+fn the_gate_is_round_each_step_of_a_hit(rt: HostRuntime) {
+    assert!(rt; tells_what_is_due(&rt, HIT));
 }

@@ -15,7 +15,7 @@ const SAID: &[u8] = b"done 9 entries 1 frames\n";
 
 /// The file of a client with the sink (1, 1) and two messages: a frame of one opaque quad, and the
 /// root.
-const ONE_QUAD: [u8; 166] = [
+pub(crate) const ONE_QUAD: [u8; 166] = [
     86, 73, 90, 67, 1, 0, 1, 0, 0, 0, 1, 0, 0, 0, 2, 0, 0, 0, 2, 1, 0, 0, 0, 1, 0, 0, 0, 1, 0, 0,
     0, 0, 0, 0, 0, 0, 0, 0, 0, 0, 0, 0, 0, 7, 0, 0, 0, 0, 0, 0, 0, 255, 0, 0, 0, 1, 1, 0, 0, 0, 0,
     0, 0, 0, 0, 0, 0, 0, 4, 0, 0, 0, 2, 0, 0, 0, 0, 0, 0, 0, 0, 0, 0, 0, 4, 0, 0, 0, 2, 0, 0, 0, 1,

@@ -1,6 +1,7 @@
-//! A hub with two callers over the plain machine: a worked row, in which one caller meets the
-//! other, and two threads that make calls at once.
+//! A hub with two callers over each machine: a worked row, in which one caller meets the other, and
+//! two threads that make calls at once.
 ghost use Rattle.std.specs.Prelude.{◌≡◌, ◌≤◌, ◌++◌, ◌∷◌, [], length, IfOk};
+ghost use Rattle.vz_rules.specs.World.{opening};
 ghost use Rattle.std.specs.Option.{ForSome};
 ghost use Rattle.vz_loans.specs.Tokens.{mine, IsAtRest, IsSameCaller};
 
@@ -10,6 +11,7 @@ use std::test::Fail;
 use std::thread::{self, Threads};
 use vz_base::Memory;
 use vz_machine::Machine;
+use vz_manager::Manager;
 use vz_rules::{Event, History, Refusal};
 use vz_slow::PlainMachine;
 use vz_turn::{Brief, ClientBrief, Hub, Pass, Told};
@@ -83,20 +85,39 @@ fn are_told(told: &Result<(Told, Told, Told), Memory>, history: &History) -> boo
     *one == first && *two == second && *three == third && history.len() == 3
 }
 
+/// Whether three calls of two callers of a hub over a machine report what they must.
+fn tells_turns<M: Machine + Send + Drop, R: Wait + AllocGlobal>(rt: &R, machine: M) -> bool
+where
+    M::Picture: Send + Drop,
+    requires opening { (M.state machine).world ≡ opening (M.state machine).plan }
+    requires client { 1 ≤ length (M.state machine).plan.files }
+{
+    let Ok((hub, mut passes)) = Hub::open(rt.alloc(), machine, 2) else {
+        return false;
+    };
+    let mut second = passes.pop().unwrap();
+    let mut first = passes.pop().unwrap();
+    let told = three_calls(rt, &hub, &mut first, &mut second);
+    passes.push_reserved(first);
+    passes.push_reserved(second);
+    let (_machine, history) = hub.close(passes);
+    are_told(&told, &history)
+}
+
 #[test]
 fn turns_of_callers(rt: HostRuntime) -> Result<(), Fail> {
     let plan = plan(rt.alloc())?;
     let machine = PlainMachine::new(rt.alloc(), &plan);
-    let Ok((hub, mut passes)) = Hub::open(rt.alloc(), machine, 2) else {
+    assert!(&rt; tells_turns(&rt, machine));
+    Ok(())
+}
+
+#[test]
+fn turns_of_callers_of_the_fast_machine(rt: HostRuntime) -> Result<(), Fail> {
+    let Ok(machine) = Manager::open(rt.alloc(), plan(rt.alloc())?) else {
         panic!(&rt; "memory")
     };
-    let mut second = passes.pop().unwrap();
-    let mut first = passes.pop().unwrap();
-    let told = three_calls(&rt, &hub, &mut first, &mut second);
-    passes.push_reserved(first);
-    passes.push_reserved(second);
-    let (_machine, history) = hub.close(passes);
-    assert!(&rt; are_told(&told, &history));
+    assert!(&rt; tells_turns(&rt, machine));
     Ok(())
 }
 
@@ -177,22 +198,44 @@ where
     )
 }
 
-#[test]
-fn callers_are_threads(rt: HostRuntime) -> Result<(), Fail> {
-    let plan = plan(rt.alloc())?;
-    let machine = PlainMachine::new(rt.alloc(), &plan);
+/// Whether two threads that make calls of a hub over a machine make all their entries.
+fn has_threads<M: Machine + Send + Drop, R: Threads + Wait + AllocGlobal + Sync>(
+    rt: &R,
+    machine: M,
+) -> bool
+where
+    M::Picture: Send + Drop,
+    requires opening { (M.state machine).world ≡ opening (M.state machine).plan }
+    requires client { 1 ≤ length (M.state machine).plan.files }
+{
     let Ok((hub, mut passes)) = Hub::open(rt.alloc(), machine, 2) else {
-        panic!(&rt; "memory")
+        return false;
     };
     let second = passes.pop().unwrap();
     let first = passes.pop().unwrap();
-    let (a, b) = at_once(&rt, &hub, first, second);
+    let (a, b) = at_once(rt, &hub, first, second);
     let (mut first, a) = a;
     let (mut second, b) = b;
     hub.meet(&mut first, &mut second);
     passes.push_reserved(first);
     passes.push_reserved(second);
     let (_machine, history) = hub.close(passes);
-    assert!(&rt; a & b & (of_clients(&history) == 3) & (history.len() == 6));
+    a & b & (of_clients(&history) == 3) & (history.len() == 6)
+}
+
+#[test]
+fn callers_are_threads(rt: HostRuntime) -> Result<(), Fail> {
+    let plan = plan(rt.alloc())?;
+    let machine = PlainMachine::new(rt.alloc(), &plan);
+    assert!(&rt; has_threads(&rt, machine));
+    Ok(())
+}
+
+#[test]
+fn callers_of_the_fast_machine_are_threads(rt: HostRuntime) -> Result<(), Fail> {
+    let Ok(machine) = Manager::open(rt.alloc(), plan(rt.alloc())?) else {
+        panic!(&rt; "memory")
+    };
+    assert!(&rt; has_threads(&rt, machine));
     Ok(())
 }
