@@ -4,7 +4,7 @@ use Rattle.vz_frame.specs.declared.message.ClientFile.{ClientFile}
 use Rattle.vz_codec.specs.{declared.fault.FileRule.FileRule, declared.fault.DecodeError.DecodeError, Grammar.placed, Grammar.wrong, Grammar.Decodes}
 use Rattle.vz_codec.specs.declared.fault.FileRule.TheVariants.{Magic, Version, Short, Tag, Limit, Colour, Trailing}
 use Rattle.vz_codec.specs.declared.fault.DecodeError.TheVariants.{Refused, Memory}
-use Rattle.viz_c.specs.{Numbers.rule_number, Numbers.IsDecodingTold, declared.answer.TheConstants.DONE, declared.answer.TheConstants.MEMORY}
+use Rattle.viz_c.specs.{Numbers.rule_number, Numbers.IsDecodingTold, Answers.DONE, Answers.MEMORY}
 
 -- a rule by its number
 rule_of : ℕ → FileRule

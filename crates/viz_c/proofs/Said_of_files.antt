@@ -8,8 +8,8 @@ use Rattle.vz_frame.specs.declared.message.ClientFile.{ClientFile}
 use Rattle.vz_gen.proofs.Fitting.{made_three}
 use Rattle.vz_gen.specs.Make.{make}
 use Rattle.viz_c.specs.{Calls.cut, Numbers.IsWithin}
-use Rattle.viz_c.specs.{Making.lengths_of, Making.MakesMore, Making.IsMadeTold, Rooms.Room, Rooms.Keeps, Rooms.KeepsRest, declared.rounds.Made.Made}
-use Rattle.viz_c.specs.declared.answer.TheConstants.{DONE, MEMORY, CALL, ROOM}
+use Rattle.viz_c.specs.{Making.lengths_of, Making.AreLengths, Making.MakesMore, Making.AreMadeTold, Making.IsMadeTold, Rooms.Room, Rooms.Keeps, Rooms.KeepsRest, declared.rounds.Made.Made}
+use Rattle.viz_c.specs.Answers.{DONE, MEMORY, CALL, ROOM}
 use Rattle.viz_c.proofs.Cutting.{cut_again, all_lengths}
 
 -- these are the files for so many rounds
@@ -36,14 +36,30 @@ module _ (rounds code : ℕ) (r : Room) (old new : List ℕ) where
       ∙ (ap (λ (bs : List ℕ). cut (lengths_of (make rounds)) bs) (front ∙ bytes) ∙ cut_again (make rounds))
   done (Err e) bytes lengths told is = absurd (omega (arith, told.0, is))
 
+  -- the lengths that are told with files that were made
+  lengths_of_all :
+      (m : Made) → m.bytes.items ≡ flat_map file_bytes (make rounds) → m.lengths.items ≡ lengths_of (make rounds)
+      → AreMadeTold m code r new → AreLengths rounds r.count new
+  lengths_of_all m bytes lengths told =
+      record {
+        each = told.lengths_are ∙ lengths;
+        all = told.count ∙ (ap length bytes ∙ (all_lengths (make rounds) ∙ ap sum (sym (told.lengths_are ∙ lengths))));
+      }
+
+  pub each_length :
+      (made : Result Made Want) → IfOk made (λ m. m.bytes.items ≡ flat_map file_bytes (make rounds))
+      → IfOk made (λ m. m.lengths.items ≡ lengths_of (make rounds)) → IsMadeTold made code r old new
+      → code ≡ DONE → AreLengths rounds r.count new
+  each_length (Ok m) bytes lengths told is = lengths_of_all m bytes lengths told
+  each_length (Err e) bytes lengths told is = absurd (omega (arith, told.0, is))
+
   pub room :
       (made : Result Made Want) → IfOk made (λ m. m.bytes.items ≡ flat_map file_bytes (make rounds))
       → IfOk made (λ m. m.lengths.items ≡ lengths_of (make rounds)) → IsMadeTold made code r old new
       → code ≡ ROOM → MakesMore rounds (length r.before) r.count new
   room (Ok m) bytes lengths told is =
       record {
-        lengths_are = told.lengths_are ∙ lengths;
-        count_is = told.count ∙ (ap length bytes ∙ (all_lengths (make rounds) ∙ ap sum (sym (told.lengths_are ∙ lengths))));
+        told = lengths_of_all m bytes lengths told;
         small = subst (λ (n : ℕ). length r.before < n) (sym told.count) (told.room is);
       }
   room (Err e) bytes lengths told is = absurd (omega (arith, told.0, is))

@@ -7,7 +7,7 @@ use Rattle.viz_run.specs.{declared.refused.InputError.InputError, declared.refus
 use Rattle.viz_run.specs.declared.refused.InputError.TheVariants as input_error
 use Rattle.viz_c.specs.{Calls.log_refused_of, declared.answer.Cause.Cause}
 use Rattle.viz_c.specs.{Judging.Judges, Judging.JudgesNo, Judging.IsCheckTold, Numbers.cause_of, Numbers.IsCause, Numbers.IsWithin}
-use Rattle.viz_c.specs.declared.answer.TheConstants.{DONE, MEMORY, CALL, ROOM, REFUSED, FAULT}
+use Rattle.viz_c.specs.Answers.{DONE, MEMORY, CALL, ROOM, REFUSED, FAULT}
 use Rattle.viz_c.proofs.Said_of_steps.{error_code, not_done}
 
 -- what holds for a size holds for one that is equal

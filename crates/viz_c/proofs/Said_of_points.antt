@@ -7,7 +7,7 @@ use Rattle.viz_run.specs.declared.refused.InputError.TheVariants as input_error
 use Rattle.vz_rules.specs.Hit.{Target as Hit}
 use Rattle.viz_c.specs.{Calls.schedule_refused_of, declared.answer.Cause.Cause, declared.hit.Target.Target}
 use Rattle.viz_c.specs.{Hitting.Hits, Hitting.HitsSome, Hitting.IsHitTold, Numbers.cause_of, Numbers.IsCause, Numbers.IsWithin}
-use Rattle.viz_c.specs.declared.answer.TheConstants.{DONE, MEMORY, CALL, ROOM, REFUSED, FAULT, NOTHING}
+use Rattle.viz_c.specs.Answers.{DONE, MEMORY, CALL, ROOM, REFUSED, FAULT, NOTHING}
 use Rattle.viz_c.proofs.Said_of_steps.{error_code, not_done}
 
 -- what holds for a size and a point holds for those that are equal

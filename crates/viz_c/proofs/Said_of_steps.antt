@@ -6,8 +6,8 @@ use Rattle.viz_run.specs.{declared.refused.InputError.InputError, declared.refus
 use Rattle.viz_run.specs.declared.refused.InputError.TheVariants as input_error
 use Rattle.viz_c.specs.{Calls.schedule_refused_of, declared.step.Left.Left}
 use Rattle.viz_c.specs.{Numbers.cause_of, Numbers.IsCause, Numbers.IsErrorTold, Numbers.IsWithin, declared.answer.Cause.Cause}
-use Rattle.viz_c.specs.{Rooms.Room, Rooms.IsPut, Rooms.Keeps, Rooms.KeepsRest, Stepping.AreStepped, Stepping.NeedsRoom, Stepping.IsStepTold}
-use Rattle.viz_c.specs.declared.answer.TheConstants.{DONE, MEMORY, CALL, ROOM, REFUSED}
+use Rattle.viz_c.specs.{Rooms.Room, Rooms.IsPut, Rooms.Keeps, Rooms.KeepsRest, Rooms.IsLengthIn, Stepping.AreStepped, Stepping.NeedsRoom, Stepping.IsStepTold}
+use Rattle.viz_c.specs.Answers.{DONE, MEMORY, CALL, ROOM, REFUSED}
 
 -- the bytes that are put into a room are its front
 front_is : (bytes : List ℕ) (r : Room) → r.count ≡ length bytes → IsPut bytes r.before r.after → take r.count r.after ≡ bytes
@@ -16,6 +16,9 @@ front_is bytes r count put = ap (λ (n : ℕ). take n r.after) count ∙ put.fro
 behind_is : (bytes : List ℕ) (r : Room) → r.count ≡ length bytes → IsPut bytes r.before r.after → drop r.count r.after ≡ drop r.count r.before
 behind_is bytes r count put =
     ap (λ (n : ℕ). drop n r.after) count ∙ (put.behind ∙ ap (λ (n : ℕ). drop n r.before) (sym count))
+
+count_is : (bytes : List ℕ) (r : Room) → r.count ≡ length bytes → IsPut bytes r.before r.after → IsLengthIn r.count r.after
+count_is bytes r count put = count ∙ sym (ap (λ (xs : List ℕ). length xs) (front_is bytes r count put))
 
 -- what holds for a size holds for one that is equal
 pub steps_for :
@@ -105,3 +108,10 @@ module _ (size : Size) (files : List (List ℕ)) (schedule : List ℕ) (code : �
       let put = told.done is in
       (behind_is l.frames.items r told.drawn_count put.0, behind_is (string_bytes l.log) s told.log_count put.1)
   behind (Err e) told is = absurd (not_done e code cause told.0 is)
+
+  -- both lengths are those of what is in their rooms
+  pub lengths : (left : Result Left InputError) → IsStepTold left code r s cause → code ≡ DONE → IsLengthIn r.count r.after × IsLengthIn s.count s.after
+  lengths (Ok l) told is =
+      let put = told.done is in
+      (count_is l.frames.items r told.drawn_count put.0, count_is (string_bytes l.log) s told.log_count put.1)
+  lengths (Err e) told is = absurd (not_done e code cause told.0 is)

@@ -15,7 +15,7 @@ use Rattle.viz_c.specs.Calls.{schedule_refused_of}
 use Rattle.viz_c.specs.Numbers.{IsErrorTold}
 use Rattle.viz_c.specs.Stepping.{IsHistory}
 use Rattle.viz_c.specs.declared.answer.Cause.{Cause}
-use Rattle.viz_c.specs.declared.answer.TheConstants.{DONE, NOTHING}
+use Rattle.viz_c.specs.Answers.{DONE, NOTHING}
 use Rattle.viz_c.specs.declared.hit.Target.{Target}
 
 -- this is hit at a point of the last drawing of a history of these events

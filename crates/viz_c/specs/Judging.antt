@@ -10,7 +10,7 @@ use Rattle.viz_run.specs.declared.refused.InputError.{InputError}
 use Rattle.viz_c.specs.Calls.{log_refused_of}
 use Rattle.viz_c.specs.Numbers.{IsErrorTold, what_number}
 use Rattle.viz_c.specs.declared.answer.Cause.{Cause}
-use Rattle.viz_c.specs.declared.answer.TheConstants.{DONE, FAULT}
+use Rattle.viz_c.specs.Answers.{DONE, FAULT}
 
 -- none of the files and of the log is refused, and this is the verdict on the log and its frames
 -- with the plan of the files

@@ -6,17 +6,21 @@ use Rattle.vz_codec.specs.Spelling.{file_bytes}
 use Rattle.vz_frame.specs.declared.message.ClientFile.{ClientFile}
 use Rattle.vz_gen.specs.Make.{make}
 use Rattle.viz_c.specs.Rooms.{Room, IsPut}
-use Rattle.viz_c.specs.declared.answer.TheConstants.{DONE, MEMORY, ROOM}
+use Rattle.viz_c.specs.Answers.{DONE, MEMORY, ROOM}
 use Rattle.viz_c.specs.declared.rounds.Made.{Made}
 
 -- how many bytes each of these files has
 abbrev pub lengths_of : List ClientFile → List ℕ
 lengths_of files = map (λ f. length (file_bytes f)) files
 
--- the files for so many rounds have these lengths and are longer together than the room
+-- the files for so many rounds have these lengths, which are together that count
+pub record AreLengths (rounds count : ℕ) (lengths : List ℕ) : Type 0 where
+  pub each : lengths ≡ lengths_of (make rounds)
+  pub all : count ≡ sum lengths
+
+-- the same, and the files are longer together than the room
 pub record MakesMore (rounds room count : ℕ) (lengths : List ℕ) : Type 0 where
-  pub lengths_are : lengths ≡ lengths_of (make rounds)
-  pub count_is : count ≡ sum lengths
+  pub told : AreLengths rounds count lengths
   pub small : room < count
 
 -- the answer for files and their lengths, and what is put into the rooms

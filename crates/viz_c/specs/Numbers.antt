@@ -14,7 +14,7 @@ use Rattle.viz_run.specs.declared.refused.Refused.{Refused}
 use Rattle.vz_check.specs.declared.verdict.What.{What}
 use Rattle.vz_check.specs.declared.verdict.What.TheVariants.{LogText, Reply, Frame, Rest, Length}
 use Rattle.viz_c.specs.declared.answer.Cause.{Cause}
-use Rattle.viz_c.specs.declared.answer.TheConstants.{DONE, MEMORY, REFUSED}
+use Rattle.viz_c.specs.Answers.{DONE, MEMORY, REFUSED}
 
 -- the number of a rule
 abbrev pub rule_number : FileRule → ℕ

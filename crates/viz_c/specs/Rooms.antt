@@ -16,6 +16,10 @@ pub record IsPut (bytes old new : List ℕ) : Type 0 where
 abbrev pub Keeps : List ℕ → List ℕ → Type 0
 Keeps old new = new ≡ old
 
+-- so many bytes are the length of what is at the front of the room, so that they are no more than it has
+abbrev pub IsLengthIn : ℕ → List ℕ → Type 0
+IsLengthIn n room = n ≡ length (take n room)
+
 -- behind so many bytes the room has what it had
 abbrev pub KeepsRest : ℕ → List ℕ → List ℕ → Type 0
 KeepsRest n old new = drop n new ≡ drop n old

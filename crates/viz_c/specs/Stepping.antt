@@ -16,7 +16,7 @@ use Rattle.viz_c.specs.Calls.{schedule_refused_of}
 use Rattle.viz_c.specs.Numbers.{IsErrorTold}
 use Rattle.viz_c.specs.Rooms.{Room, IsPut}
 use Rattle.viz_c.specs.declared.answer.Cause.{Cause}
-use Rattle.viz_c.specs.declared.answer.TheConstants.{DONE, ROOM}
+use Rattle.viz_c.specs.Answers.{DONE, ROOM}
 use Rattle.viz_c.specs.declared.step.Left.{Left}
 
 -- a legal history of exactly these events

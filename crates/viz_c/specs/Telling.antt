@@ -19,7 +19,7 @@ use Rattle.viz_c.specs.Numbers.{IsErrorTold}
 use Rattle.viz_c.specs.Rooms.{Room, IsPut}
 use Rattle.viz_c.specs.Staging.{Staged, first_stage, is_event_of, IsNext}
 use Rattle.viz_c.specs.declared.answer.Cause.{Cause}
-use Rattle.viz_c.specs.declared.answer.TheConstants.{DONE, MEMORY, CALL, ROOM, NOTHING}
+use Rattle.viz_c.specs.Answers.{DONE, MEMORY, CALL, ROOM, NOTHING}
 use Rattle.viz_c.specs.declared.next.Area.{Area}
 use Rattle.viz_c.specs.declared.shot.Shot.{Shot}
 

@@ -1,5 +1,6 @@
 //! The numbers that C is told, and why an input is refused.
 ghost use Rattle.std.specs.Prelude.{◌≡◌, ◌≢◌};
+ghost use Rattle.viz_c.specs.Answers as viz;
 ghost use Rattle.viz_c.specs.Numbers.{rule_number, reason_number, IsErrorTold};
 
 use viz_run::{InputError, Reason};
@@ -69,7 +70,7 @@ fn reason_number(reason: Reason) -> u32
 /// stays as it is.
 pub fn tell_error(error: &InputError, cause: &mut Cause) -> u32
     ensures told { IsErrorTold error.now result cause.new }
-    ensures cause_kept { result ≢ REFUSED → cause.new ≡ cause.old }
+    ensures cause_kept { result ≢ viz.REFUSED → cause.new ≡ cause.old }
 {
     match error {
         InputError::Refused(refused) => {

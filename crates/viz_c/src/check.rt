@@ -6,11 +6,12 @@ ghost use Rattle.viz_run.specs.declared.refused.InputError.TheVariants as input_
 ghost use Rattle.viz_run.specs.declared.refused.Refused.{Refused as Refusal};
 ghost use Rattle.vz_check.specs.Verdict.{IsVerdict};
 ghost use Rattle.vz_outside.specs.InMemory.{bytes_in};
+ghost use Rattle.viz_c.specs.Answers as viz;
 ghost use Rattle.viz_c.specs.Calls.{cut, log_refused_of};
 ghost use Rattle.viz_c.specs.Numbers.{what_number};
 ghost use Rattle.viz_c.specs.Judging.{Judges, IsVerdictTold, IsCheckTold};
 
-use crate::answer::{Cause, DONE, FAULT, REFUSED, tell_error};
+use crate::answer::{Cause, DONE, FAULT, tell_error};
 use crate::call::cut;
 use crate::given::admit_log;
 use std::alloc::Global;
@@ -82,8 +83,8 @@ pub fn tell_check(
     cause: &mut Cause,
 ) -> u32
     ensures told { IsCheckTold verdict.now result entry.new what.new cause.new }
-    ensures found_kept { result ≢ FAULT → (entry.new ≡ entry.old) × (what.new ≡ what.old) }
-    ensures cause_kept { result ≢ REFUSED → cause.new ≡ cause.old }
+    ensures found_kept { result ≢ viz.FAULT → (entry.new ≡ entry.old) × (what.new ≡ what.old) }
+    ensures cause_kept { result ≢ viz.REFUSED → cause.new ≡ cause.old }
 {
     match verdict {
         Ok(verdict) => tell_verdict(verdict, entry, what),
@@ -94,7 +95,7 @@ pub fn tell_check(
 /// The answer for a verdict.
 fn tell_verdict(verdict: &Verdict, entry: &mut u64, what: &mut u32) -> u32
     ensures told { IsVerdictTold verdict.now result entry.new what.new }
-    ensures found_kept { result ≢ FAULT → (entry.new ≡ entry.old) × (what.new ≡ what.old) }
+    ensures found_kept { result ≢ viz.FAULT → (entry.new ≡ entry.old) × (what.new ≡ what.old) }
 {
     match verdict {
         Verdict::Yes => DONE,

@@ -1,5 +1,6 @@
 //! What C is told of bytes that were decoded.
 ghost use Rattle.std.specs.Prelude.{◌≡◌, ◌⊎◌};
+ghost use Rattle.viz_c.specs.Answers as viz;
 ghost use Rattle.viz_c.specs.Numbers.{IsDecodingTold};
 
 use crate::answer::{DONE, MEMORY, rule_number};
@@ -10,7 +11,7 @@ use vz_frame::ClientFile;
 /// else it stays as it is.
 pub fn tell_decoding(decoded: &Result<ClientFile, DecodeError>, at: &mut usize) -> u32
     ensures told { IsDecodingTold decoded.now result at.new }
-    ensures at_kept { (result ≡ DONE) ⊎ (result ≡ MEMORY) → at.new ≡ at.old }
+    ensures at_kept { (result ≡ viz.DONE) ⊎ (result ≡ viz.MEMORY) → at.new ≡ at.old }
 {
     match decoded {
         Ok(_) => DONE,

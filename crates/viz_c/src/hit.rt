@@ -8,11 +8,12 @@ ghost use Rattle.viz_run.specs.declared.refused.InputError.TheVariants as input_
 ghost use Rattle.viz_run.specs.declared.refused.Refused.{Refused as Refusal};
 ghost use Rattle.vz_rules.specs.Plan.{IsPlan};
 ghost use Rattle.vz_rules.specs.Step.{NamesClient};
+ghost use Rattle.viz_c.specs.Answers as viz;
 ghost use Rattle.viz_c.specs.Calls.{cut, schedule_refused_of};
 ghost use Rattle.viz_run.specs.Taken.{HasTested};
 ghost use Rattle.viz_c.specs.Hitting.{Hits, IsHitIn, target_of, IsHitTold, IsFoundTold};
 
-use crate::answer::{Cause, DONE, NOTHING, REFUSED, tell_error};
+use crate::answer::{Cause, DONE, NOTHING, tell_error};
 use crate::call::cut;
 use crate::given::{Given, admit};
 use crate::solo::SoloMachine;
@@ -137,8 +138,8 @@ pub fn tell_hit(
     cause: &mut Cause,
 ) -> u32
     ensures told { IsHitTold hit.now result target.new cause.new }
-    ensures target_kept { result ≢ DONE → target.new ≡ target.old }
-    ensures cause_kept { result ≢ REFUSED → cause.new ≡ cause.old }
+    ensures target_kept { result ≢ viz.DONE → target.new ≡ target.old }
+    ensures cause_kept { result ≢ viz.REFUSED → cause.new ≡ cause.old }
 {
     match hit {
         Ok(found) => tell_found(found, target),
@@ -149,7 +150,7 @@ pub fn tell_hit(
 /// The answer for a surface that is hit, or for nothing.
 fn tell_found(found: &Option<(SurfaceId, Point)>, target: &mut Target) -> u32
     ensures told { IsFoundTold found.now result target.new }
-    ensures target_kept { result ≢ DONE → target.new ≡ target.old }
+    ensures target_kept { result ≢ viz.DONE → target.new ≡ target.old }
 {
     match found {
         Some((id, local)) => {

@@ -12,17 +12,17 @@ ghost use Rattle.vz_codec.specs.Grammar.{wrong};
 ghost use Rattle.vz_codec.specs.Spelling.{file_bytes};
 ghost use Rattle.vz_codec.specs.declared.fault.FileRule.{FileRule as Rule};
 ghost use Rattle.vz_gen.specs.Make.{make};
+ghost use Rattle.viz_c.specs.Answers as viz;
 ghost use Rattle.viz_c.specs.Calls.{is_call, is_hit_call, is_gen_call, size_of, cut};
 ghost use Rattle.viz_c.specs.Calls.{schedule_refused_of, log_refused_of};
 ghost use Rattle.viz_c.specs.Hitting.{Hits, HitsSome};
 ghost use Rattle.viz_c.specs.Judging.{Judges, JudgesNo};
-ghost use Rattle.viz_c.specs.Making.{MakesMore};
+ghost use Rattle.viz_c.specs.Making.{AreLengths, MakesMore};
 ghost use Rattle.viz_c.specs.Numbers.{rule_number, IsCause, IsWithin};
-ghost use Rattle.viz_c.specs.Rooms.{Keeps, KeepsRest};
+ghost use Rattle.viz_c.specs.Rooms.{Keeps, KeepsRest, IsLengthIn};
 ghost use Rattle.viz_c.specs.Stepping.{AreStepped, NeedsRoom};
 ghost use Rattle.viz_c.specs.Telling.{may_open, Opens, IsGivenTo, IsEntryTold, IsDrawingTold};
 ghost use Rattle.viz_run.specs.Refusals.{file_refused};
-ghost use Rattle.viz_c.specs.declared.answer.TheConstants.{DONE, MEMORY, CALL, ROOM, REFUSED, FAULT, NOTHING};
 
 mod answer;
 mod call;
@@ -72,12 +72,12 @@ pub extern "C" fn viz_version() -> u32
 /// that field in bytes from the front; or 8 if an allocation failed.
 #[unsafe(no_mangle)]
 pub extern "C" fn viz_decode(alloc: Global, bytes: &[u8], at: &mut usize) -> u32
-    ensures accepted { result ≡ DONE → wrong bytes.now ≡ None }
+    ensures accepted { result ≡ viz.DONE → wrong bytes.now ≡ None }
     ensures refused { (rule : Rule) → result ≡ rule_number rule
         → wrong bytes.now ≡ Some (record { at = at.new; rule = rule }) }
-    ensures range { result ≤ MEMORY }
+    ensures range { result ≤ viz.MEMORY }
     // Otherwise the place stays.
-    ensures at_kept { (result ≡ DONE) ⊎ (result ≡ MEMORY) → at.new ≡ at.old }
+    ensures at_kept { (result ≡ viz.DONE) ⊎ (result ≡ viz.MEMORY) → at.new ≡ at.old }
 {
     tell_decoding(&vz_codec::decode(alloc, bytes), at)
 }
@@ -106,29 +106,33 @@ pub extern "C" fn viz_step(
 ) -> u32
     // With 0 a legal history of exactly these events came about, the frames are those that it
     // writes on two buffers, the log is its text, and no input is refused.
-    ensures done { result ≡ DONE → AreStepped (size_of w h) (cut lengths.now files.now) schedule.now
+    ensures done { result ≡ viz.DONE
+        → AreStepped (size_of w h) (cut lengths.now files.now) schedule.now
         (take frames_len.new frames.new) (take log_len.new log.new) }
     // With 10 the same holds of some frames and some log of these lengths, and one of them is
     // longer than its room.
-    ensures room { result ≡ ROOM → NeedsRoom (size_of w h) (cut lengths.now files.now)
+    ensures room { result ≡ viz.ROOM → NeedsRoom (size_of w h) (cut lengths.now files.now)
         schedule.now (length frames.old) (length log.old) frames_len.new log_len.new }
     // With 11 the cause is that of the first input that is refused.
-    ensures refused { result ≡ REFUSED → IsCause
+    ensures refused { result ≡ viz.REFUSED → IsCause
         (schedule_refused_of (size_of w h) (cut lengths.now files.now) schedule.now) cause.new }
     // With 9 the call is not allowed, and a call that is not allowed gets no other answer.
-    ensures call { result ≡ CALL → is_call w h files.now lengths.now ≡ false }
-    ensures no_other { is_call w h files.now lengths.now ≡ false → result ≡ CALL }
+    ensures call { result ≡ viz.CALL → is_call w h files.now lengths.now ≡ false }
+    ensures no_other { is_call w h files.now lengths.now ≡ false → result ≡ viz.CALL }
     // There is no other answer than these and 8, so that a call with accepted inputs and large
     // rooms gets 0 unless an allocation failed.
-    ensures range { (result ≡ DONE) ⊎ IsWithin MEMORY REFUSED result }
+    ensures range { (result ≡ viz.DONE) ⊎ IsWithin viz.MEMORY viz.REFUSED result }
     // Nothing else is written into the rooms.
-    ensures kept { result ≢ DONE → Keeps frames.old frames.new × Keeps log.old log.new }
-    ensures behind { result ≡ DONE → KeepsRest frames_len.new frames.old frames.new
+    ensures kept { result ≢ viz.DONE → Keeps frames.old frames.new × Keeps log.old log.new }
+    ensures behind { result ≡ viz.DONE → KeepsRest frames_len.new frames.old frames.new
         × KeepsRest log_len.new log.old log.new }
+    // With 0 the lengths are those of the frames and of the log: no length goes beyond its room.
+    ensures lengths { result ≡ viz.DONE → IsLengthIn frames_len.new frames.new
+        × IsLengthIn log_len.new log.new }
     // The lengths stay with all answers but 0 and 10, and the cause with all but 11.
-    ensures lengths_kept { result ≢ DONE → result ≢ ROOM
+    ensures lengths_kept { result ≢ viz.DONE → result ≢ viz.ROOM
         → (frames_len.new ≡ frames_len.old) × (log_len.new ≡ log_len.old) }
-    ensures cause_kept { result ≢ REFUSED → cause.new ≡ cause.old }
+    ensures cause_kept { result ≢ viz.REFUSED → cause.new ≡ cause.old }
 {
     if !is_call(w, h, files, lengths) {
         return CALL;
@@ -158,19 +162,19 @@ pub extern "C" fn viz_check(
     what: &mut u32,
     cause: &mut Cause,
 ) -> u32
-    ensures agrees { result ≡ DONE → Judges (size_of w h) (cut lengths.now files.now)
+    ensures agrees { result ≡ viz.DONE → Judges (size_of w h) (cut lengths.now files.now)
         log.now frames.now Yes }
-    ensures differs { result ≡ FAULT → JudgesNo (size_of w h) (cut lengths.now files.now)
+    ensures differs { result ≡ viz.FAULT → JudgesNo (size_of w h) (cut lengths.now files.now)
         log.now frames.now entry.new what.new }
-    ensures refused { result ≡ REFUSED → IsCause
+    ensures refused { result ≡ viz.REFUSED → IsCause
         (log_refused_of (cut lengths.now files.now) log.now) cause.new }
-    ensures call { result ≡ CALL → is_call w h files.now lengths.now ≡ false }
-    ensures no_other { is_call w h files.now lengths.now ≡ false → result ≡ CALL }
-    ensures range { (result ≡ DONE) ⊎ IsWithin MEMORY FAULT result }
-    ensures no_room { result ≢ ROOM }
+    ensures call { result ≡ viz.CALL → is_call w h files.now lengths.now ≡ false }
+    ensures no_other { is_call w h files.now lengths.now ≡ false → result ≡ viz.CALL }
+    ensures range { (result ≡ viz.DONE) ⊎ IsWithin viz.MEMORY viz.FAULT result }
+    ensures no_room { result ≢ viz.ROOM }
     // The entry and the fault stay with all answers but 12, and the cause with all but 11.
-    ensures found_kept { result ≢ FAULT → (entry.new ≡ entry.old) × (what.new ≡ what.old) }
-    ensures cause_kept { result ≢ REFUSED → cause.new ≡ cause.old }
+    ensures found_kept { result ≢ viz.FAULT → (entry.new ≡ entry.old) × (what.new ≡ what.old) }
+    ensures cause_kept { result ≢ viz.REFUSED → cause.new ≡ cause.old }
 {
     if !is_call(w, h, files, lengths) {
         return CALL;
@@ -199,20 +203,21 @@ pub extern "C" fn viz_hit(
     target: &mut Target,
     cause: &mut Cause,
 ) -> u32
-    ensures hit { result ≡ DONE → HitsSome (size_of w h) (cut lengths.now files.now) schedule.now
+    ensures hit { result ≡ viz.DONE
+        → HitsSome (size_of w h) (cut lengths.now files.now) schedule.now
         (record { x = pos x; y = pos y }) target.new }
-    ensures nothing { result ≡ NOTHING → Hits (size_of w h) (cut lengths.now files.now)
+    ensures nothing { result ≡ viz.NOTHING → Hits (size_of w h) (cut lengths.now files.now)
         schedule.now (record { x = pos x; y = pos y }) None }
-    ensures refused { result ≡ REFUSED → IsCause
+    ensures refused { result ≡ viz.REFUSED → IsCause
         (schedule_refused_of (size_of w h) (cut lengths.now files.now) schedule.now) cause.new }
-    ensures call { result ≡ CALL → is_hit_call w h x y files.now lengths.now ≡ false }
-    ensures no_other { is_hit_call w h x y files.now lengths.now ≡ false → result ≡ CALL }
-    ensures range { (result ≡ DONE) ⊎ IsWithin MEMORY NOTHING result }
-    ensures no_room { result ≢ ROOM }
-    ensures no_fault { result ≢ FAULT }
+    ensures call { result ≡ viz.CALL → is_hit_call w h x y files.now lengths.now ≡ false }
+    ensures no_other { is_hit_call w h x y files.now lengths.now ≡ false → result ≡ viz.CALL }
+    ensures range { (result ≡ viz.DONE) ⊎ IsWithin viz.MEMORY viz.NOTHING result }
+    ensures no_room { result ≢ viz.ROOM }
+    ensures no_fault { result ≢ viz.FAULT }
     // The target stays with all answers but 0, and the cause with all but 11.
-    ensures target_kept { result ≢ DONE → target.new ≡ target.old }
-    ensures cause_kept { result ≢ REFUSED → cause.new ≡ cause.old }
+    ensures target_kept { result ≢ viz.DONE → target.new ≡ target.old }
+    ensures cause_kept { result ≢ viz.REFUSED → cause.new ≡ cause.old }
 {
     if !is_call(w, h, files, lengths) {
         return CALL;
@@ -239,16 +244,19 @@ pub extern "C" fn viz_gen(
     files_len: &mut usize,
     lengths: &mut [usize],
 ) -> u32
-    ensures done { result ≡ DONE
+    ensures done { result ≡ viz.DONE
         → cut lengths.new (take files_len.new files.new) ≡ map file_bytes (make rounds) }
-    ensures room { result ≡ ROOM → MakesMore rounds (length files.old) files_len.new lengths.new }
-    ensures call { result ≡ CALL → is_gen_call rounds lengths.old ≡ false }
-    ensures no_other { is_gen_call rounds lengths.old ≡ false → result ≡ CALL }
-    ensures range { (result ≡ DONE) ⊎ IsWithin MEMORY ROOM result }
-    ensures kept { result ≢ DONE → Keeps files.old files.new }
-    ensures behind { result ≡ DONE → KeepsRest files_len.new files.old files.new }
+    // With 0 and 10 each length is that of its file, and `files_len` is their sum.
+    ensures lengths { result ≡ viz.DONE → AreLengths rounds files_len.new lengths.new }
+    ensures room { result ≡ viz.ROOM
+        → MakesMore rounds (length files.old) files_len.new lengths.new }
+    ensures call { result ≡ viz.CALL → is_gen_call rounds lengths.old ≡ false }
+    ensures no_other { is_gen_call rounds lengths.old ≡ false → result ≡ viz.CALL }
+    ensures range { (result ≡ viz.DONE) ⊎ IsWithin viz.MEMORY viz.ROOM result }
+    ensures kept { result ≢ viz.DONE → Keeps files.old files.new }
+    ensures behind { result ≡ viz.DONE → KeepsRest files_len.new files.old files.new }
     // The lengths stay with all answers but 0 and 10.
-    ensures lengths_kept { result ≢ DONE → result ≢ ROOM
+    ensures lengths_kept { result ≢ viz.DONE → result ≢ viz.ROOM
         → (files_len.new ≡ files_len.old) × (lengths.new ≡ lengths.old) }
 {
     if !is_gen_call(rounds, lengths) {
@@ -274,18 +282,18 @@ pub extern "C" fn viz_open(
     session: &mut Session,
     cause: &mut Cause,
 ) -> u32
-    ensures done { result ≡ DONE
+    ensures done { result ≡ viz.DONE
         → Opens (size_of w h) (cut lengths.now files.now) session.new.handle.stage }
-    ensures refused { result ≡ REFUSED
+    ensures refused { result ≡ viz.REFUSED
         → IsCause (file_refused (cut lengths.now files.now)) cause.new }
-    ensures call { result ≡ CALL
+    ensures call { result ≡ viz.CALL
         → may_open w h files.now lengths.now session.old.handle.stage ≡ false }
     ensures no_other { may_open w h files.now lengths.now session.old.handle.stage ≡ false
-        → result ≡ CALL }
-    ensures range { (result ≡ DONE) ⊎ IsWithin MEMORY REFUSED result }
-    ensures no_room { result ≢ ROOM }
-    ensures kept { result ≢ DONE → session.new.handle.stage ≡ session.old.handle.stage }
-    ensures cause_kept { result ≢ REFUSED → cause.new ≡ cause.old }
+        → result ≡ viz.CALL }
+    ensures range { (result ≡ viz.DONE) ⊎ IsWithin viz.MEMORY viz.REFUSED result }
+    ensures no_room { result ≢ viz.ROOM }
+    ensures kept { result ≢ viz.DONE → session.new.handle.stage ≡ session.old.handle.stage }
+    ensures cause_kept { result ≢ viz.REFUSED → cause.new ≡ cause.old }
 {
     if session.is_open {
         return CALL;
@@ -331,7 +339,7 @@ pub extern "C" fn viz_entry(
 ) -> u32
     ensures told { IsEntryTold session.old.handle.stage result
         (record { before = line.old; after = line.new; count = line_len.new }) }
-    ensures len_kept { result ≢ DONE → result ≢ ROOM → line_len.new ≡ line_len.old }
+    ensures len_kept { result ≢ viz.DONE → result ≢ viz.ROOM → line_len.new ≡ line_len.old }
     ensures kept { session.new.handle.stage ≡ session.old.handle.stage }
 {
     if !session.is_open {
@@ -360,8 +368,8 @@ pub extern "C" fn viz_picture(
 ) -> u32
     ensures told { IsDrawingTold session.old.handle.stage result
         (record { before = pixels.old; after = pixels.new; count = pixels_len.new }) damage.new }
-    ensures len_kept { result ≢ DONE → result ≢ ROOM → pixels_len.new ≡ pixels_len.old }
-    ensures damage_kept { result ≢ DONE → damage.new ≡ damage.old }
+    ensures len_kept { result ≢ viz.DONE → result ≢ viz.ROOM → pixels_len.new ≡ pixels_len.old }
+    ensures damage_kept { result ≢ viz.DONE → damage.new ≡ damage.old }
     ensures kept { session.new.handle.stage ≡ session.old.handle.stage }
 {
     if !session.is_open {
@@ -378,9 +386,9 @@ pub extern "C" fn viz_picture(
 #[unsafe(no_mangle)]
 pub extern "C" fn viz_close(alloc: Global, session: &mut Session) -> u32
     ensures closed { session.new.handle.stage ≡ None }
-    ensures done { result ≡ DONE → is_some session.old.handle.stage ≡ true }
-    ensures call { result ≡ CALL → session.old.handle.stage ≡ None }
-    ensures range { (result ≡ DONE) ⊎ (result ≡ CALL) }
+    ensures done { result ≡ viz.DONE → is_some session.old.handle.stage ≡ true }
+    ensures call { result ≡ viz.CALL → session.old.handle.stage ≡ None }
+    ensures range { (result ≡ viz.DONE) ⊎ (result ≡ viz.CALL) }
 {
     if !session.is_open {
         return CALL;

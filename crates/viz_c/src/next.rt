@@ -1,6 +1,7 @@
 //! Gives a stage one event, and tells what it left.
 ghost use Rattle.std.specs.Prelude.{◌≡◌, ◌≢◌, ◌<◌};
 ghost use Rattle.vz_rules.specs.Log.{entry_text};
+ghost use Rattle.viz_c.specs.Answers as viz;
 ghost use Rattle.viz_c.specs.Telling.{area_of, IsGiven, IsLineTold, IsPictureTold, IsTextTold};
 ghost use Rattle.viz_c.specs.Telling.{IsPutTold, IsShotTold};
 
@@ -49,7 +50,7 @@ pub fn give(alloc: Global, stage: &mut Stage, byte: u8) -> u32
 pub fn tell_entry(alloc: Global, stage: &Stage, room: &mut [u8], count: &mut usize) -> u32
     ensures told { IsLineTold stage.now.last result
         (record { before = room.old; after = room.new; count = count.new }) }
-    ensures count_kept { result ≢ DONE → result ≢ ROOM → count.new ≡ count.old }
+    ensures count_kept { result ≢ viz.DONE → result ≢ viz.ROOM → count.new ≡ count.old }
 {
     match stage.last() {
         Some(entry) => tell_line(alloc, entry, room, count),
@@ -61,7 +62,7 @@ pub fn tell_entry(alloc: Global, stage: &Stage, room: &mut [u8], count: &mut usi
 fn tell_line(alloc: Global, entry: &Entry, room: &mut [u8], count: &mut usize) -> u32
     ensures told { IsTextTold (entry_text entry.now) result
         (record { before = room.old; after = room.new; count = count.new }) }
-    ensures count_kept { result ≢ DONE → result ≢ ROOM → count.new ≡ count.old }
+    ensures count_kept { result ≢ viz.DONE → result ≢ viz.ROOM → count.new ≡ count.old }
 {
     match write_entry(alloc, entry) {
         Ok(line) => put_told(line.as_bytes(), room, count),
@@ -92,8 +93,8 @@ pub fn tell_picture<L: Ledger>(
     requires owned { 0 < L.parts }
     ensures told { IsPictureTold stage.now.picture result
         (record { before = room.old; after = room.new; count = count.new }) damage.new }
-    ensures count_kept { result ≢ DONE → result ≢ ROOM → count.new ≡ count.old }
-    ensures damage_kept { result ≢ DONE → damage.new ≡ damage.old }
+    ensures count_kept { result ≢ viz.DONE → result ≢ viz.ROOM → count.new ≡ count.old }
+    ensures damage_kept { result ≢ viz.DONE → damage.new ≡ damage.old }
 {
     match stage.shot::<L>(alloc, blank) {
         Ok(Some(shot)) => tell_shot(&shot, room, count, damage),
@@ -107,7 +108,7 @@ pub fn tell_picture<L: Ledger>(
 fn tell_shot(shot: &Shot, room: &mut [u8], count: &mut usize, damage: &mut Area) -> u32
     ensures told { IsShotTold shot.now result
         (record { before = room.old; after = room.new; count = count.new }) damage.new }
-    ensures damage_kept { result ≢ DONE → damage.new ≡ damage.old }
+    ensures damage_kept { result ≢ viz.DONE → damage.new ≡ damage.old }
 {
     if put(shot.buffer.bytes(), room, count) {
         *damage = area_of(&shot.damage);

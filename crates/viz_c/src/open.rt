@@ -5,10 +5,11 @@ ghost use Rattle.vz_geom.specs.Display.{IsDisplaySize};
 ghost use Rattle.viz_run.specs.Refusals.{file_refused};
 ghost use Rattle.viz_run.specs.declared.refused.InputError.TheVariants as input_error;
 ghost use Rattle.viz_run.specs.declared.refused.Refused.{Refused as Refusal};
+ghost use Rattle.viz_c.specs.Answers as viz;
 ghost use Rattle.viz_c.specs.Calls.{cut};
 ghost use Rattle.viz_c.specs.Telling.{IsOpened, IsOpenTold};
 
-use crate::answer::{Cause, DONE, REFUSED, tell_error};
+use crate::answer::{Cause, DONE, tell_error};
 use crate::call::cut;
 use crate::session::Session;
 use crate::stage::Stage;
@@ -51,7 +52,7 @@ pub fn tell_open(
 ) -> u32
     requires { session.old.handle.stage ≡ None }
     ensures told { IsOpenTold opened result session.new.handle.stage cause.new }
-    ensures cause_kept { result ≢ REFUSED → cause.new ≡ cause.old }
+    ensures cause_kept { result ≢ viz.REFUSED → cause.new ≡ cause.old }
 {
     match opened {
         Ok(stage) => {

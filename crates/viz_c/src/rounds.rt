@@ -5,6 +5,7 @@ ghost use Rattle.vz_base.specs.declared.limits.TheConstants.{MOST_ROUNDS};
 ghost use Rattle.vz_frame.specs.Fits.{fits_file};
 ghost use Rattle.vz_codec.specs.Spelling.{file_bytes};
 ghost use Rattle.vz_gen.specs.Make.{make};
+ghost use Rattle.viz_c.specs.Answers as viz;
 ghost use Rattle.viz_c.specs.Calls.{is_gen_call};
 ghost use Rattle.viz_c.specs.Making.{lengths_of, IsMadeTold, AreMadeTold};
 
@@ -72,7 +73,7 @@ pub fn tell_made(
     ensures told { IsMadeTold made.now result
         (record { before = files.old; after = files.new; count = files_len.new })
         lengths.old lengths.new }
-    ensures lengths_kept { result ≢ DONE → result ≢ ROOM
+    ensures lengths_kept { result ≢ viz.DONE → result ≢ viz.ROOM
         → (files_len.new ≡ files_len.old) × (lengths.new ≡ lengths.old) }
 {
     match made {

@@ -6,10 +6,11 @@ ghost use Rattle.vz_geom.specs.Display.{IsDisplaySize};
 ghost use Rattle.viz_run.specs.declared.refused.InputError.TheVariants as input_error;
 ghost use Rattle.viz_run.specs.declared.refused.Refused.{Refused as Refusal};
 ghost use Rattle.vz_rules.specs.Step.{NamesClient};
+ghost use Rattle.viz_c.specs.Answers as viz;
 ghost use Rattle.viz_c.specs.Calls.{cut, schedule_refused_of};
 ghost use Rattle.viz_c.specs.Stepping.{Leaves, AreStepped, IsStepTold, IsLeftTold};
 
-use crate::answer::{Cause, DONE, REFUSED, ROOM, tell_error};
+use crate::answer::{Cause, DONE, ROOM, tell_error};
 use crate::call::cut;
 use crate::given::{Given, admit};
 use crate::room::put_both;
@@ -110,9 +111,9 @@ pub fn tell_step(
     ensures told { IsStepTold left.now result
         (record { before = frames.old; after = frames.new; count = frames_len.new })
         (record { before = log.old; after = log.new; count = log_len.new }) cause.new }
-    ensures lengths_kept { result ≢ DONE → result ≢ ROOM
+    ensures lengths_kept { result ≢ viz.DONE → result ≢ viz.ROOM
         → (frames_len.new ≡ frames_len.old) × (log_len.new ≡ log_len.old) }
-    ensures cause_kept { result ≢ REFUSED → cause.new ≡ cause.old }
+    ensures cause_kept { result ≢ viz.REFUSED → cause.new ≡ cause.old }
 {
     match left {
         Ok(left) => tell_left(left, frames, frames_len, log, log_len),

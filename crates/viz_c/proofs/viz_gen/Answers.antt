@@ -1,6 +1,6 @@
 use Rattle.std.proofs.Common.{sym, ◌∙◌}
 use Rattle.viz_c.proofs.Parts_of_calls.{few_rounds, three_lengths}
-use Rattle.viz_c.proofs.Said_of_files.{as_many, done, room, in_range, not_call, kept, behind}
+use Rattle.viz_c.proofs.Said_of_files.{as_many, done, each_length, room, in_range, not_call, kept, behind}
 use Rattle.viz_c.proofs.viz_gen.Goals as goal
 
 pub make_files-requires : goal.make_files-requires
@@ -14,6 +14,10 @@ tell_made-requires c =
 pub returns-clause-done : goal.returns-clause-done
 returns-clause-done c is =
     done c.args.rounds _ _ _ _ c.make_files.result c.make_files.ensures.bytes c.make_files.ensures.lengths c.tell_made.ensures.told is
+
+pub returns-clause-lengths : goal.returns-clause-lengths
+returns-clause-lengths c is =
+    each_length c.args.rounds _ _ _ _ c.make_files.result c.make_files.ensures.bytes c.make_files.ensures.lengths c.tell_made.ensures.told is
 
 pub returns-clause-room : goal.returns-clause-room
 returns-clause-room c is =

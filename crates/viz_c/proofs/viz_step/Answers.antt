@@ -1,6 +1,6 @@
 use Rattle.std.proofs.Common.{sym, ◌∙◌}
 use Rattle.viz_c.proofs.Parts_of_calls.{sides, some_files, few_files}
-use Rattle.viz_c.proofs.Said_of_steps.{steps_for, refused_for, done, room, refused, in_range, not_call, kept, behind}
+use Rattle.viz_c.proofs.Said_of_steps.{steps_for, refused_for, done, room, refused, in_range, not_call, kept, behind, lengths}
 use Rattle.viz_c.specs.Calls.{size_of, cut}
 use Rattle.viz_c.proofs.viz_step.Goals as goal
 
@@ -52,3 +52,7 @@ returns-clause-kept c other =
 pub returns-clause-behind : goal.returns-clause-behind
 returns-clause-behind c is =
     behind (size_of c.args.w c.args.h) (cut c.args.lengths.now c.args.files.now) c.args.schedule.now _ _ _ _ c.step-left.result c.tell_step.ensures.told is
+
+pub returns-clause-lengths : goal.returns-clause-lengths
+returns-clause-lengths c is =
+    lengths (size_of c.args.w c.args.h) (cut c.args.lengths.now c.args.files.now) c.args.schedule.now _ _ _ _ c.step-left.result c.tell_step.ensures.told is
