@@ -1,20 +1,14 @@
-"""Chromium without a window, spoken to over its debugging pipe (the protocol of its developer tools): JSON texts, each
-with a zero byte after it, to the browser's descriptor 3 and from its descriptor 4. It needs no port and no library."""
+"""A page in Chromium without a window: what `test --browser` and `bench/browse` ask of it. `kit/chromium/chrome` has the
+pipe."""
 
 import base64
 import json
-import os
-import select
-import shutil
-import subprocess
-import tempfile
 import time
 from pathlib import Path
 
-NAMES = ("chromium", "chromium-browser", "google-chrome", "google-chrome-stable", "chrome")
-OPTIONS = ("--headless", "--no-sandbox", "--disable-gpu", "--no-first-run", "--disable-extensions",
-           "--remote-debugging-pipe")
-SECONDS = 120
+from kit.chromium.chrome import NAMES, SECONDS, Chrome, Silent, chromium
+
+__all__ = ("NAMES", "Browser", "Silent", "chromium")
 CODES = {"ArrowLeft": 37, "ArrowUp": 38, "ArrowRight": 39, "ArrowDown": 40, "PageUp": 33, "PageDown": 34, "Home": 36,
          "End": 35, "Escape": 27, "Enter": 13}
 READY = """new Promise(done => {
@@ -23,77 +17,23 @@ READY = """new Promise(done => {
 })"""
 
 
-class Silent(Exception):
-    """The browser does not answer, or not what is wanted."""
-
-
-def chromium():
-    return next((found for found in map(shutil.which, NAMES) if found), None)
-
-
-class Browser:
+class Browser(Chrome):
     """A browser with one page. `faults` are the errors of the page, its console and its network."""
 
     def __init__(self, program):
-        self.profile = tempfile.TemporaryDirectory(ignore_cleanup_errors=True)
-        theirs, self.to = os.pipe()
-        self.of, mine = os.pipe()
-        words = [program, *OPTIONS, "--user-data-dir=" + self.profile.name, "about:blank"]
-        self.process = subprocess.Popen(["sh", "-c", 'exec "$0" "$@" 3<&%d 4>&%d' % (theirs, mine), *words],
-                                        pass_fds=(theirs, mine), stderr=subprocess.DEVNULL, stdout=subprocess.DEVNULL)
-        os.close(theirs)
-        os.close(mine)
-        self.sent, self.rest, self.session, self.faults, self.asked = 0, b"", None, [], []
+        super().__init__(program)
+        self.session, self.faults, self.asked = None, [], []
         target = self.call("Target.createTarget", url="about:blank")["targetId"]
         self.session = self.call("Target.attachToTarget", targetId=target, flatten=True)["sessionId"]
         for domain in ("Page", "Runtime", "Log", "Network"):
             self.call(domain + ".enable")
 
-    def __enter__(self):
-        return self
-
-    def __exit__(self, *_):
-        os.close(self.to)
-        try:
-            self.process.wait(10)
-        except subprocess.TimeoutExpired:
-            self.process.kill()
-            self.process.wait()
-        os.close(self.of)
-        self.profile.cleanup()
-
-    # ---------------------------------------------------------------- the protocol
-
     def call(self, method, **given):
-        """Calls a method of the protocol; its result."""
-        self.sent += 1
-        text = {"id": self.sent, "method": method, "params": given}
-        if self.session:
-            text["sessionId"] = self.session
-        os.write(self.to, json.dumps(text).encode() + b"\0")
-        end = time.monotonic() + SECONDS
-        while True:
-            got = self.message(end)
-            if got.get("id") == self.sent:
-                if "error" in got:
-                    raise Silent("%s: %s" % (method, got["error"].get("message")))
-                return got["result"]
-            self.note(got.get("method"), got.get("params"))
+        return super().call(method, self.session, **given)
 
-    def message(self, end):
-        """The next message of the browser."""
-        while b"\0" not in self.rest:
-            if not select.select([self.of], [], [], max(0, end - time.monotonic()))[0]:
-                raise Silent("no answer in %d seconds" % SECONDS)
-            data = os.read(self.of, 1 << 20)
-            if not data:
-                raise Silent("the browser ended")
-            self.rest += data
-        text, _, self.rest = self.rest.partition(b"\0")
-        return json.loads(text)
-
-    def note(self, method, given):
-        """Keeps what an event of the browser says is wrong, and which files it asked for."""
+    def heard(self, message):
+        """Keeps what the browser says is wrong, and which files it asked for."""
+        method, given = message.get("method"), message.get("params")
         if method == "Runtime.exceptionThrown":
             self.faults.append(given["exceptionDetails"].get("exception", {}).get("description", "an error"))
         elif method == "Runtime.consoleAPICalled" and given["type"] in ("error", "warning", "assert"):

@@ -5,6 +5,7 @@ import re
 from pathlib import Path
 
 from . import build, log, names, paths, wire
+from .chromium import events
 from .wrong import Usage, Wrong, file
 
 PARTS = re.compile(r"c?([1-9]|1[0-6])\.viz")
@@ -92,7 +93,8 @@ def in_folder(folder):
 
 
 def client_names(given, words, count):
-    """The names of the clients: those that are given, those of a scene, or those of the files."""
+    """The names of the clients: those that are given, those of a scene, those of a recording of
+    Chromium, or those of the files."""
     if "--names" in given:
         found = given["--names"].split(",")
         if len(found) != count or not all(found) or len(set(found)) != count:
@@ -102,6 +104,9 @@ def client_names(given, words, count):
         found = build.scene(given["--scene"]).names
         if len(found) != count:
             raise Wrong("%s has %d clients, the run has %d" % (given["--scene"], len(found), count))
+        return found
+    found = events.addresses(Path(words[0]).parent)
+    if found and len(found) == count:
         return found
     found = [Path(word).stem for word in words]
     found = ["c" + name if name.isdigit() else name for name in found]

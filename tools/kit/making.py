@@ -3,6 +3,7 @@
 from pathlib import Path
 
 from . import inputs, timeline, webpage
+from .chromium import events
 from .machine import Differs
 from .picture import Picture, strip
 from .record import Recorder
@@ -26,7 +27,8 @@ def page(run, title, buffers):
     for frame in run.frames(drawn):
         tiles.add(frame)
     lists = {**made, "names": run.names, "log": "\n".join(lines), "said": "\n".join(inputs.said(told))}
-    return webpage.page(title, lists, tiles), drawn
+    chromium = events.beside(Path(run.log_name).parent, len(run.log.entries))
+    return webpage.page(title, {**lists, **({"chromium": chromium} if chromium else {})}, tiles), drawn
 
 
 def write(name, text):

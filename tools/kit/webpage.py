@@ -8,7 +8,7 @@ from html import escape
 from pathlib import Path
 
 PAGE = Path(__file__).resolve().parent / "page"
-SCRIPTS = ("data", "state", "walk", "tiles", "view", "timeline", "panels", "events", "main")
+SCRIPTS = ("data", "state", "walk", "tiles", "view", "timeline", "panels", "events", "chromium", "main")
 
 
 def packed(value):

@@ -2,11 +2,11 @@
 // What is shown now, and the keys and controls that change it.
 
 const $ = id => document.getElementById(id);
-const TABS = ["repaint", "surfaces", "quads", "clients", "events"];
+const TABS = ["repaint", "surfaces", "quads", "clients", "events", "chromium"];
 const HUES = [212, 28, 150, 285, 48, 338, 178, 100, 255, 8, 128, 312, 62, 195, 230, 80];
 
 const now = { entry: -1, frame: -1, tab: "repaint", state: null, walk: null, drawnWalk: { list: [], cut: false }, walked: -1 };
-const toggled = { damage: true, stale: false, quads: false, surfaces: false };
+const toggled = { damage: true, stale: false, quads: false, surfaces: false, chromium: false, difference: false };
 
 let colours = new Map();      // what `colour` and `clientColour` found, until the theme changes
 
@@ -60,6 +60,7 @@ function paint() {
 }
 
 function showTab(tab) {
+  if (tab === "chromium" && !run.chromium) return;
   now.tab = tab;
   view.hot = null;
   TABS.forEach(name => {
@@ -117,6 +118,8 @@ const KEYS = {
   s: () => toggle("stale"),
   q: () => toggle("quads"),
   u: () => toggle("surfaces"),
+  c: () => toggle("chromium"),
+  v: () => toggle("difference"),
   "+": () => timeline.zoomBy(1.5),
   "=": () => timeline.zoomBy(1.5),
   "-": () => timeline.zoomBy(1 / 1.5),
@@ -186,6 +189,7 @@ async function main() {
   controls();
   events.start();
   view.start();
+  await chromium.start();
   timeline.start();
   goTo(linked() >= 0 ? linked() : run.drawn.length ? run.drawn[0][0] : 0);
   showTab("repaint");

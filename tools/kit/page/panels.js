@@ -7,7 +7,7 @@ const panels = {
   paint() {
     pin(null);
     ({ repaint: () => this.repaint(), surfaces: () => this.surfaces(), quads: () => this.quads(),
-       clients: () => this.clients(), events: () => events.paint() })[now.tab]();
+       clients: () => this.clients(), events: () => events.paint(), chromium: () => chromium.panel() })[now.tab]();
   },
 
   // ---------------------------------------------------------------- why the frame was repainted

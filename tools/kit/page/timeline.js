@@ -109,6 +109,7 @@ const timeline = {
     if (!lines.length) return;
     const first = Math.max(0, Math.floor(this.start_)), last = Math.min(lines.length - 1, Math.ceil(this.start_ + this.columns()));
     this.stripes(c, first, last);
+    chromium.marks(c, first, last);
     this.bars(c, first, last);
     this.signs(c, first, last);
     this.cursor(c);

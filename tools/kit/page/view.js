@@ -125,6 +125,7 @@ const view = {
     this.buffer.getContext("2d").putImageData(this.image, 0, 0);
     c.imageSmoothingEnabled = this.zoom < 1;
     c.drawImage(this.buffer, this.x, this.y, w * this.zoom, h * this.zoom);
+    chromium.paint(c, this.x, this.y, this.zoom);
     this.rectangle([0, 0, w, h], colour("--line-strong"), 1, 0);
     this.overlays();
   },

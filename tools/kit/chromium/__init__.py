@@ -1,0 +1,1 @@
+"""Chromium's own frames: recorded, made into message files, replayed and judged (docs/CHROMIUM.md)."""
