@@ -260,7 +260,7 @@ def one_file(folder):
 def samples(folder):
     """The words of the samples are looked at before one runs."""
     for name, words, status, said in (
-            ("run", [ONE_QUAD, "pgae"], 2, "pgae: no sample; there are browser, c, dishonest"), ("run", ["pgae"], 2, "pgae: no such program"),
+            ("run", [ONE_QUAD, "pgae"], 2, "pgae: no sample; there are browser, c, chromium, dishonest"), ("run", ["pgae"], 2, "pgae: no such program"),
             ("run", ["--out", ONE_QUAD, ONE_QUAD, "page"], 1, "a file, not a folder"), ("run", ["--fast"], 2, "--out FOLDER"),
             ("browser/run", [folder / "none"], 1, "none: no such program"), ("browser/run", [ONE_QUAD, folder / "p.jpg"], 2, "its name ends in .png")):
         yield says("../examples/" + name, words, status, said)
