@@ -20,6 +20,11 @@ pub unused_count : (id : TableId) (o : Option Plan) (k n : ℕ) → length (unus
 unused_count id o k zero = refl
 unused_count id o k (suc n) = omega (arith, unused_count id o (k + 1) n)
 
+pub unused_first : (id : TableId) (o : Option Plan) (n : ℕ) → unused_from {P = Plan} {E = Entry} id o 0 (n + 1) ≡ unused id o 0 ∷ unused_from id o 1 n
+unused_first id o n =
+    let next : suc n ≡ n + 1 = omega arith in
+    subst (λ (m : ℕ). unused_from {P = Plan} {E = Entry} id o 0 m ≡ unused id o 0 ∷ unused_from id o 1 n) next refl
+
 pub unused_rests : (id : TableId) (o : Option Plan) (t : Caller Plan Entry) → t ≡ unused id o 0 → IsAtRest id t
 unused_rests id o t is = (ap (λ (x : Caller Plan Entry). x.lock) is, ap (λ (x : Caller Plan Entry). x.inside) is)
 

@@ -7,15 +7,19 @@ use crate::view::View;
 use atomic_table::{Seat, Table};
 use std::alloc::Global;
 use std::marker::Model;
+use std::sync::atomic::AtomicU64;
 
 mod life;
 mod meet;
+mod queue;
 mod turns;
 
 /// A state that its callers use in turns.
 pub struct Lock<K: Kept> {
     table: Table<Option<K>, View<K::Plan, K::Entry>, About<K>, Ordered<K>, Global>,
     callers: u32,
+    // 1 if a caller may sleep that nobody was told to wake yet, and else 0.
+    asleep: AtomicU64,
 }
 
 impl<K: Kept> Model for Lock<K> {

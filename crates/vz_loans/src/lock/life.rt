@@ -11,6 +11,7 @@ use crate::view::View;
 use atomic_table::{Refused, Seat, Table};
 use std::alloc::Global;
 use std::snapshot::Snapshot;
+use std::sync::atomic::AtomicU64;
 
 impl<K: Kept> Lock<K> {
     // Gives a token the smallest number that the seat keeps and no caller has.
@@ -102,7 +103,11 @@ impl<K: Kept> Lock<K> {
         slots.push_reserved(Some(state));
         match Table::new(alloc, &[0, 0], slots, &about) {
             Ok((table, seat)) => {
-                let lock = Lock { table, callers };
+                let lock = Lock {
+                    table,
+                    callers,
+                    asleep: AtomicU64::new(0),
+                };
                 lock.deal_all(seat, &mut tokens);
                 Ok((lock, tokens))
             }
@@ -156,7 +161,11 @@ impl<K: Kept> Lock<K> {
         ensures others { (n : ℕ) → numbered n tokens.items ≡ 0 → places n (K.entries result) ≡ [] }
     {
         let seat = self.gather(tokens);
-        let Lock { table, callers: _ } = self;
+        let Lock {
+            table,
+            callers: _,
+            asleep: _,
+        } = self;
         let mut closed = table.close_with(seat);
         let state = closed.take(0);
         closed.free();

@@ -10,7 +10,6 @@ use crate::plays::{End, Look, Take};
 use crate::view::View;
 use atomic_table::Seat;
 use std::sync::Wait;
-use std::thread;
 
 impl<K: Kept> Lock<K> {
     // Takes a ticket, and waits until its turn comes.
@@ -21,12 +20,13 @@ impl<K: Kept> Lock<K> {
         ensures turn { HasTurn K.plan K.entries seat.old.me result seat.new.me }
     {
         let shared = &self.table.shared;
+        self.approach(rt);
         let ticket = shared.fetch_add::<Take>(seat, 0, 1);
         for _ in rt.forever() {
             if shared.load::<Look<K>>(seat, 1) == ticket {
                 return ticket;
             }
-            thread::yield_now();
+            self.pause();
         }
         unreachable!()
     }
@@ -70,6 +70,8 @@ impl<K: Kept> Lock<K> {
             None => {}
             Some(_) => unreachable!(),
         }
+        let raised = self.lower();
         shared.store::<End<K>>(&mut token.seat, 1, token.ticket.wrapping_add(1));
+        self.wake_next(raised);
     }
 }

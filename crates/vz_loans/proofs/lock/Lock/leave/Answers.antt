@@ -1,5 +1,5 @@
 use Rattle.std.proofs.Common.{rules, arith, ap, sym, subst, ◌∙◌}
-use Rattle.vz_loans.proofs.{Held.Adds, Held.leaves, Held.left_held, Held.Left, Logs.places_none, Logs.places_one, lock.Lock.leave.Goals.After-store}
+use Rattle.vz_loans.proofs.{Held.Adds, Held.leaves, Held.left_held, Held.Left, Logs.places_none, Logs.places_one, lock.Lock.leave.Goals.After-wake_next}
 use Rattle.vz_loans.proofs.lock.Lock.leave.Goals as goal
 use Rattle.vz_loans.proofs.lock.Lock.leave.Given.{Over}
 
@@ -11,7 +11,7 @@ store-requires g c = let v = c.token.view_is in let slots = c.self.invariant.1 i
       (subst (λ x. Adds g.K.Kept.plan g.K.Kept.entries x.number x.seen c.args.state) (sym v) c.requires.entries) c.exchange.ensures.3 (search rules),
 )
 
-left : (g : Over) (c : After-store g) → Left g.K.Kept.plan g.K.Kept.entries c.token.inside.number c.token.inside.ticket c.token.inside.seat.me c.store.new.seat.me c.args.state
+left : (g : Over) (c : After-wake_next g) → Left g.K.Kept.plan g.K.Kept.entries c.token.inside.number c.token.inside.ticket c.token.inside.seat.me c.store.new.seat.me c.args.state
 left g c = let v = c.token.view_is in
     left_held _ _ _ _ c.token.inside.seat.me _ _ _ c.token.invariant (ap (λ x. x.inside) v ∙ c.requires.inside) (ap (λ x. x.plan) v ∙ c.requires.plan) c.exchange.ensures.3 c.store.ensures.2
 
