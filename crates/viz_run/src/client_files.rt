@@ -31,9 +31,13 @@ type Decoded = Result<ClientFile, InputError>;
 /// How many bytes come before the sink in a client's file.
 const SINK_PLACE: usize = 6;
 
+/// From how many bytes together the files are decoded in parallel. To start a thread that allocates takes some 100
+/// microseconds, in which one thread decodes 300,000 bytes.
+const PARALLEL_BYTES: usize = 1_048_576;
+
 /// Makes the plan of the clients' files on a display of this size. `inputs` has the bytes of each
-/// file, the first those of client 1. The files are decoded in parallel, each as one piece of
-/// work.
+/// file, the first those of client 1. The files are decoded one after the other, or, if they have
+/// `PARALLEL_BYTES` together, in parallel, each as one piece of work.
 ///
 /// The error is `Refused` for the first file that is refused, with its number, the place in bytes
 /// and the reason. A file is refused if it is longer than `MOST_FILE_BYTES`, else by the first
@@ -52,8 +56,20 @@ pub fn plan_of<R: Threads + AllocGlobal + Sync>(
     ensures refused { (r : Refusal) → IsErrOf result (input_error.Refused r)
         → file_refused (contents inputs.now) ≡ Some r }
 {
+    if bytes_of(inputs) < PARALLEL_BYTES {
+        return plan_in_turn(rt.alloc(), size, inputs);
+    }
     let answers = decode_all(rt, inputs)?;
     plan_from(rt.alloc(), size, inputs, answers)
+}
+
+/// How many bytes the inputs have together.
+fn bytes_of(inputs: &[Vec<u8>]) -> usize {
+    let mut bytes: usize = 0;
+    for input in inputs {
+        bytes = bytes.saturating_add(input.len());
+    }
+    bytes
 }
 
 /// Makes the same plan as `plan_of`, with the same errors under the same conditions, but decodes
