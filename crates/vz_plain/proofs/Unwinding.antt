@@ -1,7 +1,6 @@
 -- A stack of levels: what one turn leaves of it.
-use Rattle.std.proofs.Common.{◌≡◌, ◌+◌, ◌≤◌, true, false, Option, Some, None, List, [], ◌∷◌, ◌++◌, reverse, length, refl, sym, ap, ◌∙◌, arith, subst}
-use Rattle.std.specs.Option.{option_to_list}
-use Rattle.std.proofs.lemmas.List.{reverse-append, append-nil}
+use Rattle.std.proofs.Common.{◌≡◌, ◌+◌, ◌≤◌, true, false, List, [], ◌∷◌, ◌++◌, reverse, length, refl, sym, ap, ◌∙◌, arith, subst}
+use Rattle.std.proofs.lemmas.List.{reverse-append}
 use Rattle.vz_geom.specs.declared.Point.{Point}
 use Rattle.vz_pixels.specs.Colour.{Colour}
 use Rattle.vz_frame.specs.declared.frame.DrawQuad.{DrawQuad}
@@ -10,7 +9,7 @@ use Rattle.vz_rules.specs.World.{FrameData}
 use Rattle.vz_rules.specs.Paint.{Named, Embedding, covers, material_painted, quads_painted}
 use Rattle.vz_plain.specs.Rows.{right_of, IsPainted}
 use Rattle.vz_plain.specs.Painting.{passes_in, ranges, quad_covered}
-use Rattle.vz_plain.specs.Levels.{Level, painter_at, rest, quads_left, row_now, IsJoined, IsWaiting, IsPaintedWith, row_under, AllFit, EndsAs, StackFits, StackEnds}
+use Rattle.vz_plain.specs.Levels.{Level, painter_at, rest, quads_left, row_now, IsJoined, IsWaiting, row_under, AllFit, EndsAs, StackFits, StackEnds}
 use Rattle.vz_plain.proofs.Parted.{unpainted, then_painted}
 
 -- the quad behind others is painted before them
@@ -72,38 +71,6 @@ top_first P stack l = subst P (sym (reverse-append stack (l ∷ [])))
 
 pub first_top : (P : List Level → Type 0) (stack : List Level) (l : Level) → P (reverse (stack ++ l ∷ [])) → P (l ∷ reverse stack)
 first_top P stack l = subst P (reverse-append stack (l ∷ []))
-
--- One turn that paints a quad
-
-module _ (active : List FrameData) (base : List Colour) (stack : List Level) (l : Level) (front : List DrawQuad) (quad : DrawQuad) (row : List Colour) (is : l.quads ≡ front ++ quad ∷ []) where
-  abbrev after : Level
-  after = row_now (quads_left l front) row
-
-  pub advanced : (o : Option Level) (last : List Colour) → IsPaintedWith active (quad_covered (painter_at active l) l.earlier l.pass quad) l.start l.row row o
-      → StackEnds active base ((stack ++ after ∷ []) ++ option_to_list o) last → StackEnds active base (stack ++ l ∷ []) last
-  advanced None last painted ends =
-      let now = subst (λ (s : List Level). StackEnds active base s last) (append-nil (stack ++ after ∷ [])) ends in
-      let top = first_top (λ ls. EndsAs active base ls (row_under base ls) last) stack after now in
-      top_first (λ ls. EndsAs active base ls (row_under base ls) last) stack l (stepped active base l (reverse stack) front quad row last is row painted top)
-  advanced (Some c) last painted ends =
-      let now = first_top (λ ls. EndsAs active base ls (row_under base ls) last) (stack ++ after ∷ []) c ends in
-      let top = first_top (λ ls. EndsAs active base (c ∷ ls) c.row last) stack after now in
-      top_first (λ ls. EndsAs active base ls (row_under base ls) last) stack l (entered active base l (reverse stack) front quad row last is c painted top)
-
-  pub advanced_fits : (o : Option Level) → IsPaintedWith active (quad_covered (painter_at active l) l.earlier l.pass quad) l.start l.row row o
-      → StackFits base (stack ++ l ∷ []) → StackFits base ((stack ++ after ∷ []) ++ option_to_list o)
-  advanced_fits None painted fits =
-      let old = first_top (λ ls. AllFit base ls (length (row_under base ls))) stack l fits in
-      let long = painted.long in
-      let head = old.0 in
-      subst (λ (s : List Level). StackFits base s) (sym (append-nil (stack ++ after ∷ [])))
-      (top_first (λ ls. AllFit base ls (length (row_under base ls))) stack after (omega (arith, long, head), old.1))
-  advanced_fits (Some c) painted fits =
-      let old = first_top (λ ls. AllFit base ls (length (row_under base ls))) stack l fits in
-      let long = painted.long in
-      let head = old.0 in
-      top_first (λ ls. AllFit base ls (length (row_under base ls))) (stack ++ after ∷ []) c
-      (top_first (λ ls. AllFit base (c ∷ ls) (length c.row)) stack after (painted.fits, (omega (arith, long, head), old.1)))
 
 -- One turn that ends a level
 

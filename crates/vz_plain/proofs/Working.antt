@@ -1,13 +1,11 @@
 -- Each turn leaves less work.
-use Rattle.std.proofs.Common.{◌≡◌, ℕ, zero, suc, ◌+◌, ◌-◌, ◌*◌, ◌≤◌, ◌<◌, Option, Some, None, List, [], ◌∷◌, ◌++◌, length, sym, ap, ◌∙◌, arith}
-use Rattle.std.specs.Prelude.{IfSome}
-use Rattle.std.specs.Option.{option_to_list}
+use Rattle.std.proofs.Common.{◌≡◌, ℕ, zero, suc, ◌+◌, ◌-◌, ◌*◌, ◌≤◌, ◌<◌, List, [], ◌∷◌, ◌++◌, length, sym, ap, ◌∙◌, arith}
 use Rattle.std.proofs.Math.Nat.{mul-lt-mul_of_pos_right, add-mul, one-mul}
 use Rattle.std.proofs.lemmas.List.{length-append}
 use Rattle.std.proofs.lemmas.List.Sums.{sum_by-append}
 use Rattle.vz_pixels.specs.Colour.{Colour}
 use Rattle.vz_frame.specs.declared.frame.DrawQuad.{DrawQuad}
-use Rattle.vz_plain.specs.Levels.{Level, quads_left, row_now, wide, height, IsLower}
+use Rattle.vz_plain.specs.Levels.{Level, quads_left, row_now, wide, height}
 use Rattle.vz_plain.specs.Work.{tower, work, stack_work}
 
 pub tower_some : (h : ℕ) → 0 < tower h
@@ -37,33 +35,17 @@ lower_is_less h g n less few =
     let fewer : n * tower h < wide * tower h = mul-lt-mul_of_pos_right few (tower_some h) in
     omega (arith, up, there, fewer)
 
--- one quad of a level is painted, and a lower level may begin
-module _ (stack : List Level) (l : Level) (front : List DrawQuad) (quad : DrawQuad) (row : List Colour) (is : l.quads ≡ front ++ quad ∷ []) where
+-- one quad of a level is painted
+module _ (l : Level) (front : List DrawQuad) (quad : DrawQuad) (row : List Colour) (is : l.quads ≡ front ++ quad ∷ []) where
   abbrev after : Level
   after = row_now (quads_left l front) row
 
-  one_less : work after + tower (height l.levels l.earlier) ≡ work l
+  pub one_less : work after + tower (height l.levels l.earlier) ≡ work l
   one_less =
       let t = tower (height l.levels l.earlier) in
       let n : length l.quads ≡ length front + 1 = ap length is ∙ length-append front (quad ∷ []) in
       let more : (length front + 1 + 1) * t ≡ (length front + 1) * t + t = add-mul (length front + 1) 1 t ∙ ap (λ (k : ℕ). (length front + 1) * t + k) (one-mul t) in
       sym more ∙ ap (λ (k : ℕ). (k + 1) * t) (sym n)
-
-  pub advanced_less : (o : Option Level) → IfSome o (IsLower l.levels l.earlier) → stack_work ((stack ++ after ∷ []) ++ option_to_list o) < stack_work (stack ++ l ∷ [])
-  advanced_less None lower =
-      let some = tower_some (height l.levels l.earlier) in
-      let one = one_less in
-      let now = sum_by-append work (stack ++ after ∷ []) [] in
-      let before = sum_by-append work stack (after ∷ []) in
-      let all = sum_by-append work stack (l ∷ []) in
-      omega (arith, some, one, now, before, all)
-  advanced_less (Some c) lower =
-      let less = lower_is_less (height c.levels c.earlier) (height l.levels l.earlier) (length c.quads + 1) lower.lower lower.few in
-      let one = one_less in
-      let now = sum_by-append work (stack ++ after ∷ []) (c ∷ []) in
-      let before = sum_by-append work stack (after ∷ []) in
-      let all = sum_by-append work stack (l ∷ []) in
-      omega (arith, less, one, now, before, all)
 
 -- a level ends
 pub finished_less : (stack : List Level) (l : Level) (none : l.quads ≡ []) → stack_work stack < stack_work (stack ++ l ∷ [])

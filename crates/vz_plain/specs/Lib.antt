@@ -7,3 +7,4 @@ pub mod Answered
 pub mod Rows
 pub mod Levels
 pub mod Work
+pub mod Going

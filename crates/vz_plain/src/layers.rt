@@ -66,7 +66,8 @@ fn finish<'b, 'a>(
     }
 }
 
-/// Paints the next quad of a level, and pushes what is then still to be painted onto the stack.
+/// Paints quads of a level up to one that draws a pass or a surface, and pushes what is then still
+/// to be painted onto the stack.
 fn advance<'b, 'a>(
     alloc: Global,
     active: &ActiveFrames<'b, 'a>,
@@ -82,12 +83,11 @@ fn advance<'b, 'a>(
     ensures less { OnOk result (stack_work stack.new.items
         < stack_work (stack.old.items ++ level.entry ∷ [])) }
 {
-    match level.next_quad() {
+    match level.next_level(alloc, active)? {
         None => Ok(finish(level, stack, base)?),
-        Some(quad) => {
-            let inner = level.quad(alloc, active, quad)?;
+        Some(inner) => {
             stack.push(level)?;
-            push_some(stack, inner)?;
+            stack.push(inner)?;
             Ok(())
         }
     }

@@ -6,6 +6,7 @@ ghost use Rattle.vz_plain.specs.declared.span.TheConstants.{PIECE};
 ghost use Rattle.vz_pixels.specs.Colour.{transparent};
 ghost use Rattle.vz_plain.specs.Levels.{IsJoined, IsLower, IsPaintedWith, painter_at, quads_left};
 ghost use Rattle.vz_plain.specs.Levels.{row_now, moved};
+ghost use Rattle.vz_plain.specs.Going.{GoesOn, IsStopped};
 ghost use Rattle.vz_plain.specs.Painting.{quad_covered};
 
 use crate::inks::lay_row;
@@ -108,6 +109,24 @@ impl<'b, 'a> Level<'b, 'a> {
         };
         let row = self.row.as_mut_slice();
         Ok(painter.quad(alloc, self.earlier, self.pass, quad, self.start, row)?)
+    }
+
+    /// Paints its quads, the last one first, up to one that draws a pass or a surface, whose level
+    /// it returns, or all of them.
+    pub(crate) fn next_level(
+        &mut self,
+        alloc: Global,
+        active: &ActiveFrames<'b, 'a>,
+    ) -> Result<Option<Level<'b, 'a>>, AllocError>
+        ensures goes { IfOk result (GoesOn active.now self.old self.new) }
+        ensures stops { IfOk result (IsStopped self.new) }
+    {
+        'quads: while let Some(quad) = self.next_quad() {
+            if let Some(inner) = self.quad(alloc, active, quad)? {
+                return Ok(Some(inner));
+            }
+        }
+        Ok(None)
     }
 
     /// Lays its row on the row below it. Condition: that row has all its places.

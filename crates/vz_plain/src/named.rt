@@ -20,14 +20,12 @@ pub(crate) fn last_named<'a>(
         ≡ group_here p r.0.now r.1.now m o (plus l (corner r.1.now.output)) d) }
     ensures fewer { IfSome result (λ r. length r.0.now < length passes.now) }
 {
-    match passes.split_last() {
-        None => None,
-        Some((pass, earlier)) => {
-            if pass.id == id {
-                Some((earlier, pass))
-            } else {
-                last_named(earlier, id)
-            }
+    let mut left = passes;
+    'passes: while let Some((pass, earlier)) = left.split_last() {
+        if pass.id == id {
+            return Some((earlier, pass));
         }
+        left = earlier;
     }
+    None
 }

@@ -322,7 +322,8 @@ impl<'p, 'b, 'a> Painter<'p, 'b, 'a> {
         requires { length row.old ≤ PIECE }
         ensures painted { IfOk result (IsPaintedWith self.now.active
             (λ q d. laid mode
-            (embedded self.now self.now.path submitted.now q transparent) opacity d) first row.old row.new) }
+            (embedded self.now self.now.path submitted.now q transparent) opacity d)
+            first row.old row.new) }
         ensures long { length row.new ≡ length row.old }
         ensures lower { (earlier : List RenderPass)
             → IfOk result (λ o. IfSome o (IsLower self.now.levels earlier)) }
