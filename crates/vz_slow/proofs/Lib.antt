@@ -12,4 +12,5 @@ pub mod Hitting
 pub mod Reaching
 pub mod Replaying
 pub mod Asked_once
+pub mod Quieting
 mod Stepped

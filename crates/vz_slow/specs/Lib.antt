@@ -3,3 +3,4 @@ pub mod Drawn
 pub mod Reaching
 pub mod Replaying
 pub mod Pictures
+pub mod Quiet

@@ -1,11 +1,12 @@
 //! A draw: what is drawn, or why nothing is.
-ghost use Rattle.std.specs.Prelude.{◌≡◌, ◌&&◌, is_some, IfOk};
+ghost use Rattle.std.specs.Prelude.{◌≡◌, ◌&&◌, is_some, None, IfOk, IfSome};
 ghost use Rattle.vz_geom.specs.Display.{IsDisplaySize};
 ghost use Rattle.vz_geom.specs.Rectangle.{is_empty_rect};
 ghost use Rattle.vz_rules.specs.Damage.{drawn_damage};
 ghost use Rattle.vz_rules.specs.Messages.{says};
+ghost use Rattle.vz_rules.specs.Plan.{Plan as Planned};
 ghost use Rattle.vz_rules.specs.Step.{accepted_frames as accepted_in, scene_answer, draw_answer};
-ghost use Rattle.vz_slow.specs.Drawn.{shown_by, walked_answer};
+ghost use Rattle.vz_slow.specs.Drawn.{shown_by, walked_answer, drawn_picture};
 
 use crate::world::World;
 use std::alloc::AllocError;
@@ -95,6 +96,21 @@ impl<'a> World<'a> {
                 let active = active.as_slice();
                 Ok(self.draw_walked(size, root, active, walked.visits())?)
             }
+        }
+    }
+
+    /// The reply to a draw that changes nothing, as a drawn frame is not done or no root is named.
+    /// None says that it may be another one.
+    pub(crate) fn undrawn(&self) -> Option<Reply>
+        ensures { (p : Planned) → IfSome result (λ r. (says r self.now ≡ draw_answer p self.now)
+            × (drawn_picture p self.now r ≡ None)) }
+    {
+        if self.in_flight.is_some() {
+            return Some(Reply::Busy);
+        }
+        match self.root {
+            None => Some(Reply::NoRoot),
+            Some(_) => None,
         }
     }
 

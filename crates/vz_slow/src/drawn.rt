@@ -41,8 +41,25 @@ impl<'a> Slow<'a> {
         }
     }
 
-    /// As `draw_picture`. It paints the picture before the machine takes its step.
+    /// As `draw_picture`.
     fn draw_and_paint(&mut self) -> Result<(Reply, BoxedEffects, Option<Vec<Pixel>>), AllocError>
+        ensures step { IfOk result (λ d. IsOutcome (step_in self.old.plan self.old.world event.Draw)
+            (d.0, d.1) self.new.world) }
+        ensures picture { IfOk result (λ d. option_map (λ v. v.items) d.2
+            ≡ drawn_picture self.old.plan self.old.world d.0) }
+        ensures plan { self.new.plan ≡ self.old.plan }
+        ensures err { OnErr result (self.new ≡ self.old) }
+    {
+        match self.undrawn() {
+            Some(reply) => Ok((reply, BoxedEffects::none(), None)),
+            None => Ok(self.draw_and_paint_apart()?),
+        }
+    }
+
+    /// As `draw_and_paint`, in a copy of the world. It paints the picture before the machine takes its step.
+    fn draw_and_paint_apart(
+        &mut self,
+    ) -> Result<(Reply, BoxedEffects, Option<Vec<Pixel>>), AllocError>
         ensures step { IfOk result (λ d. IsOutcome (step_in self.old.plan self.old.world event.Draw)
             (d.0, d.1) self.new.world) }
         ensures picture { IfOk result (λ d. option_map (λ v. v.items) d.2

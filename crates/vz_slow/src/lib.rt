@@ -19,6 +19,7 @@ mod messages;
 mod naming;
 mod picture;
 mod plain_machine;
+mod quiet;
 mod reach;
 mod replay;
 mod rest;

@@ -1,5 +1,5 @@
 //! The reply to a client's message and what the message changes, before any effects.
-ghost use Rattle.std.specs.Prelude.{◌≡◌, ◌∷◌, [], Some, true, map, IfOk, OnOk};
+ghost use Rattle.std.specs.Prelude.{◌≡◌, ◌∷◌, [], Some, true, map, IfOk, OnOk, OnErr};
 ghost use Rattle.vz_rules.specs.World.{Client as ClientState, client_at};
 ghost use Rattle.vz_rules.specs.Messages.{taking, says, refused, in_use, upload_answer, root_answer, await_answer, mark_of, message_answer};
 ghost use Rattle.vz_rules.specs.Messages.{answer_tick, reclaim, first_some, when, is_related, relate, hierarchy_refusal, hierarchy_answer, client_answer};
@@ -7,7 +7,8 @@ ghost use Rattle.vz_rules.specs.declared.entry.Refusal.TheVariants as refusal;
 ghost use Rattle.vz_rules.specs.declared.entry.Reply.TheVariants as reply;
 ghost use Rattle.vz_state.specs.Changes.{changed_by};
 ghost use Rattle.vz_state.specs.Fitting.{FitsSome};
-ghost use Rattle.vz_state.specs.Small.{AreSmallClients, IsSmall};
+ghost use Rattle.vz_state.specs.Small.{AreSmallClients};
+ghost use Rattle.vz_slow.specs.Quiet.{AreOwn, IsOwn};
 
 use crate::world::{World, short};
 use std::alloc::{AllocError, Global};
@@ -16,12 +17,12 @@ use vz_ids::{FrameSinkId, LocalSurfaceId, SurfaceId};
 use vz_pixels::PixelBlock;
 use vz_rules::{Plan, Refusal, Reply, Returned};
 use vz_state::{
-    Change, blocks_of, change_one, client_of, in_use, is_known, last_created, mark_client,
-    next_message, reaches, submit_refusal,
+    Change, blocks_of, change_alone, change_one, client_of, in_use, is_known, last_created,
+    mark_client, next_message, reaches, submit_refusal,
 };
 
 /// A copy of returns, in their order.
-fn copy_of(alloc: Global, queue: &[Returned]) -> Result<Vec<Returned>, AllocError>
+pub(crate) fn copy_of(alloc: Global, queue: &[Returned]) -> Result<Vec<Returned>, AllocError>
     ensures { IfOk result (λ v. v.items ≡ queue.now) }
 {
     queue.iter().copied().collect(alloc)
@@ -38,56 +39,71 @@ impl<'a> World<'a> {
         Ok(())
     }
 
+    /// The client takes a message that changes the client alone. At an error nothing changes.
+    fn change_alone(&mut self, c: u32, change: &Change<'a>) -> Result<(), AllocError>
+        requires { AreOwn self.old.clients }
+        ensures value { (x : ClientState) → client_at self.old c ≡ Some x
+            → OnOk result (self.new ≡ taking (changed_by change.now) x self.old) }
+        ensures err { OnErr result (self.new ≡ self.old) }
+    {
+        change_alone(&mut self.clients, self.alloc, c, change)?;
+        Ok(())
+    }
+
     /// The client takes a message that is refused, which changes nothing else.
     pub(crate) fn refuse(&mut self, c: u32, refusal: Refusal) -> Result<Reply, AllocError>
-        requires { AreSmallClients self.old.clients }
-        ensures { (x : ClientState) → client_at self.old c ≡ Some x
+        requires { AreOwn self.old.clients }
+        ensures value { (x : ClientState) → client_at self.old c ≡ Some x
             → IfOk result (λ r. says r self.new ≡ refused self.old x refusal) }
+        ensures err { OnErr result (self.new ≡ self.old) }
     {
-        self.change(c, &Change::Nothing)?;
+        self.change_alone(c, &Change::Nothing)?;
         Ok(Reply::Refused(refusal))
     }
 
     /// Stores an uploaded block. The upload is refused if the resource is in use.
-    fn upload(
+    pub(crate) fn upload(
         &mut self,
         c: u32,
         used: bool,
         id: u32,
         block: &'a PixelBlock,
     ) -> Result<Reply, AllocError>
-        requires { AreSmallClients self.old.clients }
-        ensures { (x : ClientState) → client_at self.old c ≡ Some x → used ≡ in_use x.resources id
+        requires { AreOwn self.old.clients }
+        ensures value { (x : ClientState) → client_at self.old c ≡ Some x → used ≡ in_use x.resources id
             → IfOk result (λ r. says r self.new ≡ upload_answer self.old x id block.now) }
+        ensures err { OnErr result (self.new ≡ self.old) }
     {
         if used {
             return Ok(self.refuse(c, Refusal::InUse)?);
         }
-        self.change(c, &Change::Store { id, block })?;
+        self.change_alone(c, &Change::Store { id, block })?;
         Ok(Reply::Stored)
     }
 
     /// The client answers a begin-frame without a frame.
-    fn note(&mut self, c: u32, n: u32) -> Result<Reply, AllocError>
-        requires { AreSmallClients self.old.clients }
-        ensures { (x : ClientState) → client_at self.old c ≡ Some x
+    pub(crate) fn note(&mut self, c: u32, n: u32) -> Result<Reply, AllocError>
+        requires { AreOwn self.old.clients }
+        ensures value { (x : ClientState) → client_at self.old c ≡ Some x
             → IfOk result (λ r. says r self.new
             ≡ says reply.Noted (taking (answer_tick self.old.tick n) x self.old)) }
+        ensures err { OnErr result (self.new ≡ self.old) }
     {
         let tick = self.tick;
-        self.change(c, &Change::Answer { n, tick })?;
+        self.change_alone(c, &Change::Answer { n, tick })?;
         Ok(Reply::Noted)
     }
 
     /// Gives the client its queue of returned resources.
-    fn hand_over(&mut self, c: u32, queue: Vec<Returned>) -> Result<Reply, AllocError>
-        requires { AreSmallClients self.old.clients }
-        ensures { (x : ClientState) → client_at self.old c ≡ Some x → queue.items ≡ x.queue
+    pub(crate) fn hand_over(&mut self, c: u32, queue: Vec<Returned>) -> Result<Reply, AllocError>
+        requires { AreOwn self.old.clients }
+        ensures value { (x : ClientState) → client_at self.old c ≡ Some x → queue.items ≡ x.queue
             → IfOk result (λ r. says r self.new
             ≡ says (reply.Reclaimed x.queue) (taking reclaim x self.old)) }
+        ensures err { OnErr result (self.new ≡ self.old) }
     {
-        self.change(c, &Change::Reclaim)?;
         let queue = short(self.alloc, List::from_vec(queue))?;
+        self.change_alone(c, &Change::Reclaim)?;
         Ok(Reply::Reclaimed(queue))
     }
 
@@ -98,7 +114,7 @@ impl<'a> World<'a> {
         sink: FrameSinkId,
         local: LocalSurfaceId,
     ) -> Result<Reply, AllocError>
-        requires { AreSmallClients self.old.clients }
+        requires { AreOwn self.old.clients }
         ensures { (x : ClientState) → client_at self.old c ≡ Some x → sink ≡ x.sink
             → IfOk result (λ r. says r self.new ≡ root_answer self.old x local) }
     {
@@ -112,21 +128,22 @@ impl<'a> World<'a> {
 
     /// If a begin-frame is pending, the client takes it. Otherwise the reply is Over if the Over
     /// mark is set, and else NotYet, for which no message is taken.
-    fn wait(&mut self, c: u32, delivered: Option<u32>) -> Result<Reply, AllocError>
-        requires { AreSmallClients self.old.clients }
-        ensures { (x : ClientState) → client_at self.old c ≡ Some x → delivered ≡ x.delivered
+    pub(crate) fn wait(&mut self, c: u32, delivered: Option<u32>) -> Result<Reply, AllocError>
+        requires { AreOwn self.old.clients }
+        ensures value { (x : ClientState) → client_at self.old c ≡ Some x → delivered ≡ x.delivered
             → IfOk result (λ r. says r self.new ≡ await_answer self.old x) }
+        ensures err { OnErr result (self.new ≡ self.old) }
     {
         match delivered {
             Some(n) => {
-                self.change(c, &Change::Take)?;
+                self.change_alone(c, &Change::Take)?;
                 Ok(Reply::Began(n))
             }
             None => {
                 if !self.over {
                     return Ok(Reply::Refused(Refusal::NotYet));
                 }
-                self.change(c, &Change::Nothing)?;
+                self.change_alone(c, &Change::Nothing)?;
                 Ok(Reply::Over)
             }
         }
@@ -134,7 +151,7 @@ impl<'a> World<'a> {
 
     /// Closes the client and marks its surfaces.
     fn leave(&mut self, c: u32) -> Result<Reply, AllocError>
-        requires { AreSmallClients self.old.clients }
+        requires { AreOwn self.old.clients }
         ensures { (x : ClientState) → client_at self.old c ≡ Some x
             → IfOk result (λ r. says r self.new ≡ says reply.Left
             (record (taking (λ (y : ClientState). record y { closed = true }) x self.old) {
@@ -181,7 +198,7 @@ impl<'a> World<'a> {
         parent: FrameSinkId,
         child: FrameSinkId,
     ) -> Result<Reply, AllocError>
-        requires { AreSmallClients self.old.clients }
+        requires { AreOwn self.old.clients }
         ensures { (x : ClientState) → client_at self.old c ≡ Some x → sink ≡ x.sink
             → IfOk result (λ r. says r self.new ≡ hierarchy_answer self.old x parent child) }
     {
@@ -197,7 +214,7 @@ impl<'a> World<'a> {
 
     /// The reply to a message of a client that is not closed, and what the message changes.
     fn message(&mut self, c: u32, message: &'a Message) -> Result<Reply, AllocError>
-        requires small { IsSmall self.old }
+        requires small { IsOwn self.old }
         requires fits { FitsSome message.now }
         ensures { (x : ClientState) → client_at self.old c ≡ Some x
             → IfOk result (λ r. says r self.new ≡ message_answer self.old x message.now) }
@@ -245,7 +262,7 @@ impl<'a> World<'a> {
 impl<'a> World<'a> {
     /// The reply to the next message of a client, and what the message changes.
     pub(crate) fn client(&mut self, plan: &'a Plan, c: u32) -> Result<Reply, AllocError>
-        requires { IsSmall self.old }
+        requires { IsOwn self.old }
         ensures { IfOk result (λ r. says r self.new ≡ client_answer plan.now self.old c) }
     {
         match client_of(&self.clients, c) {

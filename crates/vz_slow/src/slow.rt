@@ -1,13 +1,14 @@
 //! The plain machine, step by step.
-ghost use Rattle.std.specs.Prelude.{◌≡◌, ◌≤◌, None, true, [], IfOk, OnOk, OnErr};
+ghost use Rattle.std.specs.Prelude.{◌≡◌, ◌≤◌, None, true, [], IfOk, IfSome, OnOk, OnErr};
 ghost use Rattle.vz_rules.specs.declared.entry.Event.TheVariants as event;
 ghost use Rattle.vz_rules.specs.World.{opening, active_frames};
-ghost use Rattle.vz_rules.specs.Messages.{says};
+ghost use Rattle.vz_rules.specs.Messages.{says, client_answer};
 ghost use Rattle.vz_rules.specs.Step.{outcome_of, step_in, NamesClient};
 ghost use Rattle.vz_rules.specs.Log.{rest_in};
 ghost use Rattle.vz_rules.specs.Kept.{Keeps};
 ghost use Rattle.vz_rules.specs.Plan.{Plan as Planned};
 ghost use Rattle.vz_slow.specs.Reaching.{IsReached, IsOutcome, HasRoom, world_at};
+ghost use Rattle.vz_slow.specs.Quiet.{IsAlone, IsQuietStep, IsUndrawn};
 
 use crate::world::World;
 use std::alloc::{AllocError, Global};
@@ -146,8 +147,35 @@ impl<'a> Slow<'a> {
 }
 
 impl<'a> Slow<'a> {
+    /// Takes the next message of a client in the world itself, if it changes the client alone;
+    /// otherwise it answers None and changes nothing. At an error nothing changes.
+    fn quiet(&mut self, c: u32) -> Result<Option<Reply>, AllocError>
+        ensures ok { IfOk result
+            (λ o. IsQuietStep self.old c o self.new) }
+        ensures plan { self.new.plan ≡ self.old.plan }
+        ensures err { OnErr result (self.new ≡ self.old) }
+    {
+        let reply = take_quiet(self.plan, &mut self.stage, c)?;
+        Ok(reply)
+    }
+
     /// Takes the next message of a client. Condition: the plan has that client.
     fn client(&mut self, c: u32) -> Result<(Reply, BoxedEffects), AllocError>
+        requires { NamesClient self.old.plan (event.Client c) }
+        ensures ok { IfOk result
+            (λ o. IsOutcome (step_in self.old.plan self.old.world (event.Client c)) o self.new.world) }
+        ensures plan { self.new.plan ≡ self.old.plan }
+        ensures err { OnErr result (self.new ≡ self.old) }
+    {
+        match self.quiet(c)? {
+            Some(reply) => Ok((reply, BoxedEffects::none())),
+            None => Ok(self.client_apart(c)?),
+        }
+    }
+
+    /// Takes the next message of a client in a copy of the world. Condition: the plan has that
+    /// client.
+    fn client_apart(&mut self, c: u32) -> Result<(Reply, BoxedEffects), AllocError>
         requires { NamesClient self.old.plan (event.Client c) }
         ensures ok { IfOk result
             (λ o. IsOutcome (step_in self.old.plan self.old.world (event.Client c)) o self.new.world) }
@@ -171,8 +199,32 @@ impl<'a> Slow<'a> {
         Ok(self.finish(next, reply)?)
     }
 
+    /// The reply to a draw that changes nothing, as a drawn frame is not done or no root is named.
+    /// None says that it may be another one.
+    pub(crate) fn undrawn(&self) -> Option<Reply>
+        ensures { IfSome result (λ r. IsUndrawn self.now r) }
+    {
+        match &self.stage {
+            Stage::Opening { .. } => Some(Reply::NoRoot),
+            Stage::Running(world) => world.undrawn(),
+        }
+    }
+
     /// Draws.
     fn draw(&mut self) -> Result<(Reply, BoxedEffects), AllocError>
+        ensures ok { IfOk result
+            (λ o. IsOutcome (step_in self.old.plan self.old.world event.Draw) o self.new.world) }
+        ensures plan { self.new.plan ≡ self.old.plan }
+        ensures err { OnErr result (self.new ≡ self.old) }
+    {
+        match self.undrawn() {
+            Some(reply) => Ok((reply, BoxedEffects::none())),
+            None => Ok(self.draw_apart()?),
+        }
+    }
+
+    /// Draws in a copy of the world.
+    fn draw_apart(&mut self) -> Result<(Reply, BoxedEffects), AllocError>
         ensures ok { IfOk result
             (λ o. IsOutcome (step_in self.old.plan self.old.world event.Draw) o self.new.world) }
         ensures plan { self.new.plan ≡ self.old.plan }
@@ -278,6 +330,25 @@ impl<'a> Slow<'a> {
             }),
             Stage::Running(world) => Ok(world.rest()?),
         }
+    }
+}
+
+/// Takes the next message of a client in the world of a stage, if it changes the client alone;
+/// otherwise it answers None and changes nothing. At an error nothing changes. Condition: the plan
+/// leads to the world.
+fn take_quiet<'a>(
+    plan: &'a Plan,
+    stage: &mut Stage<'a>,
+    c: u32,
+) -> Result<Option<Reply>, AllocError>
+    requires { IsReached plan.now (world_at plan.now stage.old) }
+    ensures ok { IfOk result (λ o. IsAlone (world_at plan.now stage.old)
+        (client_answer plan.now (world_at plan.now stage.old) c) o (world_at plan.now stage.new)) }
+    ensures err { OnErr result (stage.new ≡ stage.old) }
+{
+    match stage {
+        Stage::Opening { .. } => Ok(None),
+        Stage::Running(world) => Ok(world.quiet(plan, c)?),
     }
 }
 

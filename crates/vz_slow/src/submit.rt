@@ -6,6 +6,7 @@ ghost use Rattle.vz_rules.specs.World.{Client as ClientState, client_at, last_cr
 ghost use Rattle.vz_rules.specs.Messages.{says, submit_refusal, id_of, blocks_of, new_submission, with_surface, replace_on, accepted, submit_answer};
 ghost use Rattle.vz_placement.specs.Limits.{FitsFile};
 ghost use Rattle.vz_state.specs.Small.{IsSmall};
+ghost use Rattle.vz_slow.specs.Quiet.{IsOwn};
 
 use crate::world::World;
 use std::alloc::AllocError;
@@ -91,7 +92,7 @@ impl<'a> World<'a> {
         blocks: Vec<&'a PixelBlock>,
         frame: &'a CompositorFrame,
     ) -> Result<Reply, AllocError>
-        requires small { IsSmall self.old }
+        requires small { IsOwn self.old }
         requires fits { FitsFile frame.now }
         ensures { (x : ClientState) (local : Local) → client_at self.old c ≡ Some x
             → id_of x local ≡ id
@@ -117,7 +118,7 @@ impl<'a> World<'a> {
         blocks: Vec<&'a PixelBlock>,
         frame: &'a CompositorFrame,
     ) -> Result<Reply, AllocError>
-        requires small { IsSmall self.old }
+        requires small { IsOwn self.old }
         requires fits { FitsFile frame.now }
         ensures { (x : ClientState) (local : Local) → client_at self.old c ≡ Some x
             → refusal ≡ submit_refusal (last_created self.old x.number) x.resources local frame.now

@@ -9,3 +9,4 @@ pub mod Activating
 pub mod Ends
 pub mod Meets
 pub mod Among
+pub mod Alone

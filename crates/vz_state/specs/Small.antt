@@ -1,5 +1,5 @@
 -- Worlds whose numbers are small. Every world that a plan leads to is one.
-use Rattle.std.specs.Prelude.{◌≤◌, ◌*◌, List, length}
+use Rattle.std.specs.Prelude.{◌≡◌, ◌≤◌, ◌*◌, ◌+◌, ℕ, Some, List, length, slice_get}
 use Rattle.std.specs.List.{Contains}
 use Rattle.vz_base.specs.declared.limits.TheConstants.{LAST_TICK, MOST_FILES, MOST_MESSAGES}
 use Rattle.vz_rules.specs.World.{World, Client, Resource}
@@ -16,6 +16,10 @@ pub record IsSmallClient (c : Client) : Type 0 where
 -- the same for each of these clients
 abbrev pub AreSmallClients : List Client → Type 0
 AreSmallClients clients = (c : Client) → Contains clients c → IsSmallClient c
+
+-- the clients are numbered from a number on
+abbrev pub AreNumbered : ℕ → List Client → Type 0
+AreNumbered first clients = (n : ℕ) (c : Client) → slice_get clients n ≡ Some c → c.number ≡ n + first
 
 -- few submissions were accepted, few surfaces were created, and the tick is not one of the last
 pub record IsSmall (w : World) : Type 0 where

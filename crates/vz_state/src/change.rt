@@ -1,9 +1,9 @@
 //! How a client's message changes what is kept of the client.
-ghost use Rattle.std.specs.Prelude.{◌≡◌, ◌==◌, map, if◌then◌else◌, OnOk};
+ghost use Rattle.std.specs.Prelude.{◌≡◌, ◌==◌, map, find, Some, if◌then◌else◌, OnOk, OnErr};
 ghost use Rattle.vz_rules.specs.Messages.{took, lend, reclaim, answer_tick};
 ghost use Rattle.vz_state.specs.Changes.{changed_by};
-ghost use Rattle.vz_state.specs.Small.{AreSmallResources, IsSmallClient, AreSmallClients};
-ghost use Rattle.vz_rules.specs.World.{change_client};
+ghost use Rattle.vz_state.specs.Small.{AreSmallResources, IsSmallClient, AreSmallClients, AreNumbered};
+ghost use Rattle.vz_rules.specs.World.{Client as ClientState, change_client};
 
 use crate::client::Client;
 use crate::resource::{lend_all, put, reclaim_all};
@@ -47,10 +47,12 @@ pub enum Change<'a> {
 }
 
 impl<'a> Client<'a> {
-    /// Takes a message and changes the client. Condition: its counts are within the limits.
+    /// Takes a message and changes the client. At an error nothing changes. Condition: its counts
+    /// are within the limits.
     pub fn change(&mut self, alloc: Global, change: &Change<'a>) -> Result<(), AllocError>
         requires { IsSmallClient self.old }
-        ensures { OnOk result (self.new ≡ took (changed_by change.now self.old)) }
+        ensures value { OnOk result (self.new ≡ took (changed_by change.now self.old)) }
+        ensures err { OnErr result (self.new ≡ self.old) }
     {
         match change {
             Change::Nothing => {}
@@ -72,8 +74,9 @@ impl<'a> Client<'a> {
     /// Condition: the counts are within the limits.
     fn lend(&mut self, listings: &[Listing]) -> Result<(), AllocError>
         requires { AreSmallResources self.old.resources }
-        ensures { OnOk result (self.new
+        ensures value { OnOk result (self.new
             ≡ record self.old { resources = map (lend listings.now) self.old.resources }) }
+        ensures err { OnErr result (self.new ≡ self.old) }
     {
         make_room(&mut self.queue, self.resources.len())?;
         lend_all(&mut self.resources, listings);
@@ -82,7 +85,8 @@ impl<'a> Client<'a> {
 
     /// Empties the queue, and makes room again for the returns that are outstanding.
     fn reclaim(&mut self, alloc: Global) -> Result<(), AllocError>
-        ensures { OnOk result (self.new ≡ reclaim self.old) }
+        ensures value { OnOk result (self.new ≡ reclaim self.old) }
+        ensures err { OnErr result (self.new ≡ self.old) }
     {
         let mut queue = Room::new(alloc);
         make_room(&mut queue, self.resources.len())?;
@@ -127,5 +131,28 @@ pub fn change_one<'a>(
     for k in 0..clients.len() {
         clients[k].change_if(alloc, c, change)?;
     }
+    Ok(())
+}
+
+/// The client with this number takes a message and is changed. At an error nothing changes.
+/// Condition: the clients are numbered from 1.
+pub fn change_alone<'a>(
+    clients: &mut [Client<'a>],
+    alloc: Global,
+    c: u32,
+    change: &Change<'a>,
+) -> Result<(), AllocError>
+    requires small { AreSmallClients clients.old }
+    requires numbered { AreNumbered 1 clients.old }
+    ensures value { (x : ClientState) → find (λ y. y.number == c) clients.old ≡ Some x
+        → OnOk result (clients.new
+        ≡ change_client (λ y. took (changed_by change.now y)) c clients.old) }
+    ensures err { OnErr result (clients.new ≡ clients.old) }
+{
+    let place = (c as usize).saturating_sub(1);
+    if place >= clients.len() {
+        return Ok(());
+    }
+    clients[place].change(alloc, change)?;
     Ok(())
 }

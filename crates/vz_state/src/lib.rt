@@ -26,7 +26,7 @@ mod submission;
 mod surface;
 
 pub use accept::{blocks_of, count_created, count_of_client, count_on, number_after, replace_all};
-pub use change::{Change, change_one};
+pub use change::{Change, change_alone, change_one};
 pub use client::{
     Client, client_of, deliver_all, has_closed, is_gone, is_known, new_client, new_clients,
 };

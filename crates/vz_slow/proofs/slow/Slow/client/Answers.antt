@@ -1,27 +1,15 @@
-use Rattle.std.proofs.Common.{sym, ap, ◌∙◌, subst}
+use Rattle.std.proofs.Common.{ap, ◌∙◌}
 use Rattle.vz_rules.specs.World.{Machine}
 use Rattle.vz_rules.specs.Step.{step_in}
 use Rattle.vz_rules.specs.declared.entry.Event.TheVariants as event
-use Rattle.vz_slow.specs.Reaching.{IsReached}
-use Rattle.vz_slow.proofs.Following.{client_step, reached_after}
-use Rattle.vz_state.specs.Small.{IsSmall}
-use Rattle.vz_slow.proofs.Reaching.{reached_small}
+use Rattle.vz_slow.proofs.Quieting.{quiet_outcome, quiet_none}
 use Rattle.vz_slow.proofs.slow.Slow.client.Goals as goal
 
-pub client-requires : goal.client-requires
-client-requires c =
-    let reached = subst (λ (m : Machine). IsReached m.plan m.world) c.self.view_is c.self.invariant.reached in
-    subst IsSmall (sym c.in_ok-next.ensures) (reached_small c.args.self.now.plan c.args.self.now.world reached)
+pub returns-in-Some-clause-ok : goal.returns-in-Some-clause-ok
+returns-in-Some-clause-ok c =
+    quiet_outcome c.args.self.now c.quiet.new.self c.args.c c.in_ok-reply.field-0 c.in-Some.reply c.none.result c.in_ok-reply.ensures.ok c.in-Some.is c.none.ensures
 
-pub finish-requires : goal.finish-requires
-finish-requires c =
-    let reached = subst (λ (m : Machine). IsReached m.plan m.world) c.self.view_is c.self.invariant.reached in
-    let step = client_step _ _ c.client.new.self c.args.c c.in_ok-reply.reply c.in_ok-reply.ensures
-    ∙ (ap (λ w. step_in c.self.inside.plan.now w (event.Client c.args.c)) c.in_ok-next.ensures ∙ ap (λ (m : Machine). step_in m.plan c.args.self.now.world (event.Client c.args.c)) c.self.view_is) in
-    reached_after c.args.self.now (event.Client c.args.c) c.in_ok-reply.reply c.client.new.self reached step
-
-pub returns-clause-ok : goal.returns-clause-ok
-returns-clause-ok c =
-    let step = client_step _ _ c.client.new.self c.args.c c.in_ok-reply.reply c.in_ok-reply.ensures
-    ∙ (ap (λ w. step_in c.self.inside.plan.now w (event.Client c.args.c)) c.in_ok-next.ensures ∙ ap (λ (m : Machine). step_in m.plan c.args.self.now.world (event.Client c.args.c)) c.self.view_is) in
-    c.in_ok-finish.ensures.ok ∙ step
+pub returns-in_ok-client_apart-in-None-clause-ok : goal.returns-in_ok-client_apart-in-None-clause-ok
+returns-in_ok-client_apart-in-None-clause-ok c =
+    let same = quiet_none c.args.self.now c.quiet.new.self c.args.c c.in_ok-reply.field-0 c.in_ok-reply.ensures.ok c.in-None.is in
+    c.in_ok-client_apart-in-None.ensures.ok ∙ ap (λ (m : Machine). step_in m.plan m.world (event.Client c.args.c)) same

@@ -10,7 +10,7 @@ use Rattle.vz_slow.proofs.world.World.accept.Goals as goal
 pub change-requires : goal.change-requires
 change-requires c =
     let e1 = c.in_ok-add_surface.ensures (new_client c.args.c c.args.id.sink) c.args.id.local refl refl in
-    subst AreSmallClients (sym (ap (λ (u : World). u.clients) c.in_ok-add_submission.ensures ∙ ap (λ (u : World). u.clients) e1)) c.requires.small.clients
+    subst AreSmallClients (sym (ap (λ (u : World). u.clients) c.in_ok-add_submission.ensures ∙ ap (λ (u : World). u.clients) e1)) c.requires.small.small.clients
 
 pub returns : goal.returns
 returns c = λ x local h own same.

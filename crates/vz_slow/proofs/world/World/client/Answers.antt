@@ -21,7 +21,7 @@ returns-then-is_closed c =
     let w = c.args.self.now in
     let x = c.in-Some.client.now in
     let found = client_at_is w c.args.c c.deref.result.now _ _ c.client_of.ensures (c.deref.ensures.value ∙ ap (λ (u : World). u.clients) c.self.view_is) (ap option_copied c.in-Some.is) in
-    c.in_ok-refuse-in-Some-next_message.ensures x found
+    c.in_ok-refuse-in-Some-next_message.ensures.value x found
     ∙ (known_closed c.args.plan.now w x _ _ c.next_message.ensures.value (ap option_copied c.in-Some-next_message.is) (sym c.is_closed.ensures ∙ c.if-is_closed.true)
     ∙ client_found c.args.plan.now w c.args.c x found)
 

@@ -30,14 +30,14 @@ unfolding message_answer
 returns-in_ok-upload-in-Upload c = λ x h.
     let own = found_is c.args.self.now c.args.c x c.in-Some.client.now c.deref.result.now _ h c.client_of.ensures (c.deref.ensures.value ∙ ap (λ (u : World). u.clients) c.self.view_is)
     (ap option_copied c.in-Some.is) in
-    c.in_ok-upload-in-Upload.ensures x h (c.in_use-used.ensures ∙ ap (λ (l : List Resource). in_use l c.in-Upload.id) (c.resources.ensures ∙ ap (λ (y : Client). y.resources) own)) ∙ ap (message_answer c.args.self.now x) (sym c.in-Upload.is)
+    c.in_ok-upload-in-Upload.ensures.value x h (c.in_use-used.ensures ∙ ap (λ (l : List Resource). in_use l c.in-Upload.id) (c.resources.ensures ∙ ap (λ (y : Client). y.resources) own)) ∙ ap (message_answer c.args.self.now x) (sym c.in-Upload.is)
 
 pub returns-in_ok-note-in-DidNotProduce : goal.returns-in_ok-note-in-DidNotProduce
 unfolding message_answer
 returns-in_ok-note-in-DidNotProduce c = λ x h.
     let own = found_is c.args.self.now c.args.c x c.in-Some.client.now c.deref.result.now _ h c.client_of.ensures (c.deref.ensures.value ∙ ap (λ (u : World). u.clients) c.self.view_is)
     (ap option_copied c.in-Some.is) in
-    c.in_ok-note-in-DidNotProduce.ensures x h ∙ ap (message_answer c.args.self.now x) (sym c.in-DidNotProduce.is)
+    c.in_ok-note-in-DidNotProduce.ensures.value x h ∙ ap (message_answer c.args.self.now x) (sym c.in-DidNotProduce.is)
 
 pub returns-in_ok-name_root-in-SetRoot : goal.returns-in_ok-name_root-in-SetRoot
 unfolding message_answer
@@ -58,7 +58,7 @@ unfolding message_answer
 returns-in_ok-wait-in-Await c = λ x h.
     let own = found_is c.args.self.now c.args.c x c.in-Some.client.now c.deref.result.now _ h c.client_of.ensures (c.deref.ensures.value ∙ ap (λ (u : World). u.clients) c.self.view_is)
     (ap option_copied c.in-Some.is) in
-    c.in_ok-wait-in-Await.ensures x h (c.delivered-delivered.ensures ∙ ap (λ (y : Client). y.delivered) own) ∙ ap (message_answer c.args.self.now x) (sym c.in-Await.is)
+    c.in_ok-wait-in-Await.ensures.value x h (c.delivered-delivered.ensures ∙ ap (λ (y : Client). y.delivered) own) ∙ ap (message_answer c.args.self.now x) (sym c.in-Await.is)
 
 pub returns-in_ok-leave-in-Close : goal.returns-in_ok-leave-in-Close
 unfolding message_answer
@@ -72,7 +72,7 @@ unfolding message_answer
 returns-in_ok-hand_over-in-Reclaim c = λ x h.
     let own = found_is c.args.self.now c.args.c x c.in-Some.client.now c.deref.result.now _ h c.client_of.ensures (c.deref.ensures.value ∙ ap (λ (u : World). u.clients) c.self.view_is)
     (ap option_copied c.in-Some.is) in
-    c.in_ok-hand_over-in-Reclaim.ensures x h (c.in_ok-queue-in-Reclaim.ensures ∙ (c.queue.ensures ∙ ap (λ (y : Client). y.queue) own)) ∙ ap (message_answer c.args.self.now x) (sym c.in-Reclaim.is)
+    c.in_ok-hand_over-in-Reclaim.ensures.value x h (c.in_ok-queue-in-Reclaim.ensures ∙ (c.queue.ensures ∙ ap (λ (y : Client). y.queue) own)) ∙ ap (message_answer c.args.self.now x) (sym c.in-Reclaim.is)
 
 pub returns-in_ok-submit-in-Submit : goal.returns-in_ok-submit-in-Submit
 unfolding message_answer
