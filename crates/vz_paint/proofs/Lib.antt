@@ -13,3 +13,6 @@ mod Patches
 mod Grouped
 mod Bands_drawn
 mod Bytes_of_groups
+mod Rows_behind
+mod Same_rows
+mod Bands_of_rows

@@ -5,3 +5,4 @@ pub mod Choice
 pub mod Ground
 pub mod Redraw
 pub mod Scratch
+pub mod Alike

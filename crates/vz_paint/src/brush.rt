@@ -1,16 +1,18 @@
 //! Drawing the rows of an area.
-ghost use Rattle.std.specs.Prelude.{◌≡◌, ◌+◌, ◌*◌, ◌≤◌, ◌<◌, ◌+ℤ◌, ◌≤ℤ◌, ◌<ℤ◌, pos, nat_abs, length, map, max, true, vec_len, vec_capacity, IfOk};
+ghost use Rattle.std.specs.Prelude.{◌≡◌, ◌+◌, ◌*◌, ◌≤◌, ◌<◌, ◌+ℤ◌, ◌≤ℤ◌, ◌<ℤ◌, pos, nat_abs, length, map, take, drop, max, true, vec_len, vec_capacity, IfOk};
 ghost use Rattle.std.specs.List.{All};
 ghost use Rattle.vz_base.specs.declared.limits.TheConstants.{GREATEST_DISPLAY_SIDE};
 ghost use Rattle.vz_buffers.specs.Bands.{FitsIn, rows_put, rows_from};
 ghost use Rattle.vz_flat.specs.declared.op.TheConstants.{MOST_OPEN};
 ghost use Rattle.vz_flat.specs.Ops.{is_whole, deepest};
+ghost use Rattle.vz_paint.specs.Redraw.{AreLines, rows_of};
 ghost use Rattle.vz_paint.specs.Scratch.{group_bytes, scratch_bytes, most_bytes};
 ghost use Rattle.vz_paint.specs.Stack.{HavePixels};
 ghost use Rattle.vz_paint.specs.Strips.{IsArea, IsBrush, strip_of};
 
 use crate::drawing::draw_all;
 use crate::group::OpenGroup;
+use crate::repeats::{repeat_row, rows_alike};
 use crate::rows::{Lines, place};
 use std::alloc::Global;
 use vz_base::Memory;
@@ -69,7 +71,7 @@ impl<'a, 'b> Brush<'a, 'b> {
     }
 
     /// Draws rows of the area: one operation after the other, each in as many rows as stay in the
-    /// fastest memory.
+    /// fastest memory. Of many rows that are alike one is drawn, and copied to the others.
     fn draw_lines(&mut self, from: u32, lines: Lines, pixels: &mut [Pixel])
         requires able { IsBrush (map (λ r. r.now) self.old.ops.now) self.old.sheet.area
             self.old.rows self.old.groups.items }
@@ -90,26 +92,65 @@ impl<'a, 'b> Brush<'a, 'b> {
     {
         let mut done = 0;
         while done < lines.count {
-            let here = least(lines.count - done, self.rows);
+            let left = lines.count - done;
             let start = row_start(&self.sheet.area, from + done as u32);
-            let upper = place(lines.width, 0, done);
-            let lower = place(lines.width, 0, done + here);
-            let band = Lines {
-                width: lines.width,
-                left: lines.left,
-                wide: lines.wide,
-                count: here,
-            };
-            draw_all(
-                self.ops,
-                self.sheet.ground,
-                band,
-                start,
-                self.groups.as_mut_slice(),
-                &mut pixels[upper..lower],
-            );
-            done += here;
+            let here = least(left, self.rows);
+            let alike = rows_alike(self.ops, start.y, left);
+            if is_worth_copying(alike, here) {
+                self.draw_band(start, lines, done, 1, pixels);
+                repeat_row(lines, done, alike, pixels);
+                done += alike;
+            } else {
+                self.draw_band(start, lines, done, here, pixels);
+                done += here;
+            }
         }
+    }
+
+    /// Draws a band of `count` rows of the area behind the first `done` of these lines, the first
+    /// one from a point on: one operation after the other, each in all of these rows.
+    fn draw_band(
+        &mut self,
+        start: Point,
+        lines: Lines,
+        done: usize,
+        count: usize,
+        pixels: &mut [Pixel],
+    )
+        requires able { IsBrush (map (λ r. r.now) self.old.ops.now) self.old.sheet.area
+            self.old.rows self.old.groups.items }
+        requires lines { AreLines start lines.width lines.left lines.wide count
+            (take (count * lines.width) (drop (done * lines.width) pixels.old)) }
+        requires rows { count ≤ self.old.rows }
+        requires wide { lines.wide ≡ nat_abs self.old.sheet.area.w }
+        requires inside { (done + count) * lines.width ≤ length pixels.old }
+        requires few { (done + count) ≤ GREATEST_DISPLAY_SIDE }
+        ensures able { IsBrush (map (λ r. r.now) self.new.ops.now) self.new.sheet.area
+            self.new.rows self.new.groups.items }
+        ensures ops { self.new.ops.now ≡ self.old.ops.now }
+        ensures sheet { self.new.sheet ≡ self.old.sheet }
+        ensures rows { self.new.rows ≡ self.old.rows }
+        ensures long { length pixels.new ≡ length pixels.old }
+        ensures painted { pixels.new ≡ rows_put lines.width (done * lines.width + lines.left)
+            (rows_of (map (λ r. r.now) self.old.ops.now) self.old.sheet.ground start lines.wide)
+            count pixels.old }
+    {
+        let upper = place(lines.width, 0, done);
+        let lower = place(lines.width, 0, done + count);
+        let band = Lines {
+            width: lines.width,
+            left: lines.left,
+            wide: lines.wide,
+            count,
+        };
+        draw_all(
+            self.ops,
+            self.sheet.ground,
+            band,
+            start,
+            self.groups.as_mut_slice(),
+            &mut pixels[upper..lower],
+        );
     }
 }
 
@@ -138,6 +179,14 @@ impl<'a, 'b> RowPainter for Brush<'a, 'b> {
         };
         self.draw_lines(from, lines, pixels);
     }
+}
+
+/// Whether so many rows that are alike are drawn once and copied, and not drawn as a part of `here`
+/// rows: if that takes less time, as each operation also takes some in which no pixel is drawn.
+fn is_worth_copying(alike: usize, here: usize) -> bool
+    ensures { result ≡ true → 1 < alike }
+{
+    1 < alike && here / 4 < alike
 }
 
 /// The leftmost point of a row of an area; `below` counts rows from the top one.

@@ -8,6 +8,7 @@ mod drawing;
 mod ground;
 mod group;
 mod painting;
+mod repeats;
 mod rows;
 mod span;
 
