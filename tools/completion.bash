@@ -17,7 +17,7 @@ _viz_tools() {
     [[ $words ]] && mapfile -t COMPREPLY < <(compgen -W "$words" -- "$word")
 }
 
-for _viz_tool in tools/{scene,view,story,frames,replay,why,diff,reftest,play,record,viz,man,test} examples/run examples/{browser,chromium}/run; do
+for _viz_tool in tools/{scene,view,story,frames,replay,why,diff,reftest,play,record,reduce,viz,man,test} examples/run examples/{browser,chromium}/run; do
     complete -o default -F _viz_tools "$_viz_tool" "./$_viz_tool"
 done
 unset _viz_tool
